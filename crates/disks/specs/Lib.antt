@@ -1,0 +1,5 @@
+pub mod Device
+pub mod Disks
+pub mod Cluster
+pub mod Over
+pub mod Promise

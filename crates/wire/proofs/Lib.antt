@@ -1,0 +1,5 @@
+pub mod Numbers
+pub mod Fields
+pub mod CallBytes
+pub mod AnswerBytes
+pub mod FrameBytes

@@ -1,0 +1,7 @@
+pub mod Numbers
+pub mod Kinds
+pub mod Refusals
+pub mod Calls
+pub mod Answers
+pub mod Frames
+pub mod Promises
