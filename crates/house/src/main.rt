@@ -23,6 +23,7 @@ use wire::answer::Answer;
 use wire::call::Call;
 use wire::number::*;
 use wire::refusal::Refusal;
+use wire::response::Response;
 
 // How many houses there may be.
 const LEAST_HOUSES: u8 = 3;
@@ -74,30 +75,41 @@ fn arguments(rt: &LibcRuntime) -> Result<Place, AnyError> {
 }
 
 // What a call is answered: nothing is kept yet, so each is refused.
-fn answer(call: &[u8]) -> Answer<'_>
-    ensures { λ r. ⌜ theReply r ≡ No (refusalFor (decoded isBuilt (now (call .entry)))) ⌝ }
+fn respond(customer: Customer, call: &[u8]) -> Response<'_>
+    ensures same { λ r. ⌜ r .customer ≡ customer ⌝ }
+    ensures refused { λ r. ⌜ theReply (r .answer) ≡ No (refusalFor (decoded isBuilt (now (call .entry)))) ⌝ }
 {
-    match Call::decode(call) {
-        Ok(_) => Answer::Refused(Refusal::NotBuilt),
-        Err(refusal) => Answer::Refused(refusal),
+    let refusal = match Call::decode(call) {
+        Ok(_) => Refusal::NotBuilt,
+        Err(refusal) => refusal,
+    };
+    Response {
+        customer,
+        answer: Answer::Refused(refusal),
     }
+}
+
+// Prints `answer N HEX`.
+fn print_response<W: Write>(rt: &LibcRuntime, out: &mut W, response: &Response) -> io::Result<()> {
+    let bytes = response.answer.encode(rt.alloc())?;
+    let text = hex::encode(rt.alloc(), bytes.as_slice())?;
+    let n = response.customer.0;
+    write!(out, "answer {n} ")?;
+    out.write_all(text.as_slice())?;
+    writeln!(out, "")
 }
 
 // Prints what a line leads to.
 fn obey<W: Write>(rt: &LibcRuntime, out: &mut W, place: Place, line: &Buffer) -> io::Result<()> {
-    let heap = rt.alloc();
     if line.spoiled {
         return writeln!(out, "refused 1");
     }
-    match parse(heap, line.bytes.as_slice(), place.houses) {
-        Ok(Line::Ask(customer, call)) => {
-            let bytes = answer(call.as_slice()).encode(heap)?;
-            let text = hex::encode(heap, bytes.as_slice())?;
-            let n = customer.0;
-            write!(out, "answer {n} ")?;
-            out.write_all(text.as_slice())?;
-            writeln!(out, "")
-        }
+    match parse(rt.alloc(), line.bytes.as_slice(), place.houses) {
+        Ok(Line::Ask(customer, call)) => print_response(
+            rt,
+            out,
+            &respond(customer, call.as_slice()),
+        ),
         Ok(Line::From(_, _)) => Ok(()),
         Ok(Line::Tick) => Ok(()),
         Err(_) => writeln!(out, "refused 1"),

@@ -13,7 +13,7 @@ use Rattle.lines.specs.Decimals.{withDigit, decimalFrom, decimalOf}
 use Rattle.lines.specs.Hexes.{digitOf, digitFor, byteIn, withByte, bytesIn, hexOf, HexRoundTrip}
 use Rattle.lines.specs.Lines.{Parts, withFront, cutAt}
 use Rattle.std.proofs.shelf.Ways.{tells}
-use Rattle.wire.proofs.Numbers.{first-byte}
+use Rattle.bytes.proofs.Numbers.{first-byte}
 
 -- a turn over decimal digits, by what one digit gave
 pub digit-more : (n : ℕ) (ds : List ℕ) (i : ℕ) (o : Option ℕ) → i < length ds → withDigit n (getD ds i 0) ≡ o → decimalFrom n (drop i ds) ≡ elim o [ None ↦ None | Some m ↦ decimalFrom m (drop (i + 1) ds) ]

@@ -14,12 +14,12 @@ use Rattle.std.specs.declared.option.Option.the-variants.{Some, None}
 use Rattle.disks.specs.Device.{allBytes}
 use Rattle.disks.specs.Disks.{Reply, No, Yes, Num, Token, Sector, Full}
 use Rattle.wire.specs.declared.refusal.Refusal.{Refusal}
-use Rattle.wire.specs.Numbers.{field, numbersBytes}
+use Rattle.bytes.specs.Numbers.{field, numbersBytes, small}
 use Rattle.wire.specs.Refusals.{refusalNumber, refusalOf}
 use Rattle.wire.specs.Answers.{answerBytes, answeredBy, answeredAs, refusedBy, ofLength}
-use Rattle.wire.specs.Promises.{small, Said, AnswerRoundTrip, AnswerOneSpelling, AnswerBytesSound}
-use Rattle.wire.proofs.Numbers.{first-byte}
-use Rattle.wire.proofs.Fields.{length-numbers, field-at, fields, fields-spell, fields-small, exact}
+use Rattle.wire.specs.Promises.{Said, AnswerRoundTrip, AnswerOneSpelling, AnswerBytesSound}
+use Rattle.bytes.proofs.Numbers.{first-byte}
+use Rattle.bytes.proofs.Fields.{length-numbers, field-at, fields, fields-spell, fields-small, exact}
 
 -- the number of a refusal that was found is the number that it was found by
 number-back : (n : ℕ) (e : Refusal) → refusalOf n ≡ Some e → refusalNumber e ≡ n

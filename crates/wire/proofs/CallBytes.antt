@@ -17,12 +17,12 @@ use Rattle.disks.specs.Device.{allBytes}
 use Rattle.disks.specs.Disks.{Call, Make, Attach, Read, Write, Sync, Picture', Copy, Drop, DropPicture, core}
 use Rattle.wire.specs.declared.kind.Kind.{Kind}
 use Rattle.wire.specs.declared.kind.Kind.the-variants as kinds
-use Rattle.wire.specs.Numbers.{field, numbersBytes}
+use Rattle.bytes.specs.Numbers.{field, numbersBytes, small}
 use Rattle.wire.specs.Kinds.{numberOf, kindOf, kindIn, isBuilt}
 use Rattle.wire.specs.Calls.{kindFor, numbersIn, contentOf, callBytes, lengthFor, callOf, parsedAs, Decoded, is-call, is-refused, orMalformed, decodedAs, decoded}
-use Rattle.wire.specs.Promises.{small, Spelled, RoundTrip, OneSpelling, Refuses, BuiltIsCore, CallBytesSound}
-use Rattle.wire.proofs.Numbers.{first-byte}
-use Rattle.wire.proofs.Fields.{length-numbers, field-at, fields, fields-spell, fields-small, exact}
+use Rattle.wire.specs.Promises.{Spelled, RoundTrip, OneSpelling, Refuses, BuiltIsCore, CallBytesSound}
+use Rattle.bytes.proofs.Numbers.{first-byte}
+use Rattle.bytes.proofs.Fields.{length-numbers, field-at, fields, fields-spell, fields-small, exact}
 
 -- what follows the kind
 abbrev tail : Call → List ℕ

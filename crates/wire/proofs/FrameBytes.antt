@@ -10,10 +10,10 @@ use lib.ListN.{length, length-append, length-take, length-drop, take, drop, take
 use Rattle.disks.specs.Device.{allBytes}
 use Rattle.wire.specs.Promises.{FrameRoundTrip, FrameOneSpelling, FrameBytesSound}
 use Rattle.std.proofs.shelf.Lists.{take-at, drop-at}
-use Rattle.wire.specs.Numbers.{big, bytesOf}
+use Rattle.bytes.specs.Numbers.{big, bytesOf}
 use Rattle.wire.specs.Frames.{frameBytes, framed, framedAs, framedIn, Frames, whole, short, broken}
-use Rattle.wire.proofs.Numbers.{length-bytesOf, big-bytesOf}
-use Rattle.wire.proofs.Fields.{big-eight, bytes-take, bytes-drop, bytes-front}
+use Rattle.bytes.proofs.Numbers.{length-bytesOf, big-bytesOf}
+use Rattle.bytes.proofs.Fields.{big-eight, bytes-take, bytes-drop, bytes-front}
 
 not-less : (m n : ℕ) → n ≤ m → ltb m n ≡ false
 not-less m n h = grind (arith, tells)

@@ -1,5 +1,3 @@
-pub mod Numbers
-pub mod Fields
 pub mod CallBytes
 pub mod AnswerBytes
 pub mod FrameBytes

@@ -12,7 +12,7 @@ use Rattle.disks.specs.Disks.{Reply, No, Yes, Num, Token, Sector, Full}
 use Rattle.wire.specs.declared.answer.Answer.{Answer}
 use Rattle.wire.specs.declared.answer.Answer.the-variants as typed
 use Rattle.wire.specs.declared.refusal.Refusal.{Refusal}
-use Rattle.wire.specs.Numbers.{field, numbersBytes}
+use Rattle.bytes.specs.Numbers.{field, numbersBytes}
 use Rattle.wire.specs.Refusals.{refusalNumber, refusalOf}
 
 -- the reply of the meaning that the code's value stands for

@@ -15,7 +15,7 @@ use Rattle.wire.specs.declared.kind.Kind.the-variants as kinds
 use Rattle.wire.specs.declared.call.Call.{Call as Typed}
 use Rattle.wire.specs.declared.call.Call.the-variants as typed
 use Rattle.wire.specs.declared.refusal.Refusal.{Refusal}
-use Rattle.wire.specs.Numbers.{field, numbersBytes}
+use Rattle.bytes.specs.Numbers.{field, numbersBytes}
 use Rattle.wire.specs.Kinds.{numberOf, kindIn}
 use Rattle.wire.specs.Refusals.{refusalNumber}
 

@@ -7,7 +7,7 @@ use lib.Dec.{ltb}
 use lib.ListN.{length, take, drop}
 use Rattle.wire.specs.declared.frame.Framed.{Framed}
 use Rattle.wire.specs.declared.frame.Framed.the-variants as typed
-use Rattle.wire.specs.Numbers.{big, bytesOf}
+use Rattle.bytes.specs.Numbers.{big, bytesOf}
 
 abbrev pub frameBytes : (customer : ℕ) → List ℕ → List ℕ
 frameBytes n body = bytesOf 4 (8 + length body) ++ (bytesOf 8 n ++ body)

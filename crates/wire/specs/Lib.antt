@@ -1,4 +1,3 @@
-pub mod Numbers
 pub mod Kinds
 pub mod Refusals
 pub mod Calls

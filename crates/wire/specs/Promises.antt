@@ -11,17 +11,13 @@ use Rattle.std.specs.Options.{isSome}
 use Rattle.std.specs.declared.option.Option.the-variants.{Some}
 use Rattle.disks.specs.Device.{allBytes}
 use Rattle.disks.specs.Disks.{Call, Reply, No, Yes, Num, Token, Sector, Full, core}
+use Rattle.bytes.specs.Numbers.{small}
 use Rattle.wire.specs.declared.kind.Kind.{Kind}
 use Rattle.wire.specs.Kinds.{kindIn, isBuilt}
 use Rattle.wire.specs.Refusals.{refusalOf}
 use Rattle.wire.specs.Calls.{kindFor, numbersIn, contentOf, callBytes, lengthFor, decoded, is-call, is-refused}
 use Rattle.wire.specs.Answers.{answerBytes, answeredBy}
 use Rattle.wire.specs.Frames.{frameBytes, framed, whole}
-
--- numbers of 64 bits
-unfoldable pub small : List ℕ → Bool
-small [] = true
-small (n ∷ ns) = ltb n (2 ^ 64) && small ns
 
 -- a call that bytes can spell: its numbers fit, and it is as long as its kind says, which is that a write has 512 bytes
 pub record Spelled (c : Call) : Type 0 where

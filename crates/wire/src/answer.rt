@@ -6,9 +6,10 @@ ghost use Rattle.std.specs.Vec.{made};
 ghost use Rattle.wire.specs.Answers.{theReply, answerBytes, answeredBy, answeredAs, refusedBy};
 ghost use Rattle.wire.specs.Promises.{AnswerBytesSound};
 use crate::number::*;
-use crate::reader::*;
 use crate::refusal::Refusal;
-use crate::writer::message;
+use bytes::SECTOR_BYTES;
+use bytes::reader::*;
+use bytes::writer::message;
 use std::alloc::AllocError;
 use std::alloc::Global;
 

@@ -8,9 +8,10 @@ ghost use Rattle.wire.specs.Promises.{CallBytesSound};
 use crate::kind::Kind;
 use crate::kind::Tagged;
 use crate::number::*;
-use crate::reader::*;
 use crate::refusal::Refusal;
-use crate::writer::*;
+use bytes::SECTOR_BYTES;
+use bytes::reader::*;
+use bytes::writer::*;
 use std::alloc::AllocError;
 use std::alloc::Global;
 

@@ -8,9 +8,9 @@ ghost use Rattle.wire.specs.declared.frame.FrameError.the-variants.{TooLong, M
 ghost use Rattle.wire.specs.Frames.{frameBytes, framed, theFrames};
 ghost use Rattle.wire.specs.Promises.{FrameBytesSound};
 use crate::number::Customer;
-use crate::reader::number;
-use crate::writer::put_length;
-use crate::writer::put_number;
+use bytes::reader::number;
+use bytes::writer::put_length;
+use bytes::writer::put_number;
 use std::alloc::AllocError;
 use std::alloc::Global;
 

@@ -4,6 +4,5 @@ pub mod call;
 pub mod frame;
 pub mod kind;
 pub mod number;
-pub mod reader;
 pub mod refusal;
-pub mod writer;
+pub mod response;

@@ -1,10 +1,4 @@
-// Numbers that must not be mixed, each a type of its own, and a sector's length.
-
-// How many bytes a sector has.
-pub const SECTOR_BYTES: usize = 512;
-
-// What a sector holds that nobody wrote to.
-pub const BLANK_SECTOR: [u8; SECTOR_BYTES] = [0; SECTOR_BYTES];
+// Numbers that must not be mixed, each a type of its own.
 
 // A volume's number, given once.
 #[derive(Clone, Copy, PartialEq, Eq)]

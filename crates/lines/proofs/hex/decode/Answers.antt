@@ -23,7 +23,7 @@ returns-in-rest c =
 pub loop-i-again : need.loop-i-again
 loop-i-again c =
     let read = byte-more (c .args .text .now) (c .loop-i .i) (Some (c .in-Some .b)) (omega arith) (sym (c .in-Some .ensures tt)) in
-    c .loop-i .inv ∙ ap (behind (vec-items (c .loop-i .out))) read ∙ behind-more _ _ (c .in-Some .b) (bytesIn (drop (2 * (c .loop-i .i + 1)) (c .args .text .now))) (c .in-Continue-push .ensures tt .items)
+    c .loop-i .inv ∙ ap (behind (vec-items (c .loop-i .out))) read ∙ behind-more (vec-items (c .loop-i .out)) (vec-items (c .push .last .self)) (c .in-Some .b) (bytesIn (drop (2 * (c .loop-i .i + 1)) (c .args .text .now))) (c .in-Continue-push .ensures tt .items)
 
 pub returns : need.returns
 returns c = sym (c .loop-i .inv ∙ behind-all (c .args .text .now) (vec-items (c .loop-i .out)) (2 * c .loop-i .i) (omega arith))

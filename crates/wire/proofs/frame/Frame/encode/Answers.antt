@@ -3,7 +3,7 @@ use mathlib.Core.List.{List, [], _++_, append-assoc}
 use Prim.Native.Nat.{ℕ, _+_}
 use native.Mathlib.Omega.{arith}
 use lib.ListN.{length}
-use Rattle.wire.specs.Numbers.{bytesOf}
+use Rattle.bytes.specs.Numbers.{bytesOf}
 use Rattle.wire.specs.Frames.{frameBytes}
 use Rattle.wire.proofs.frame.Frame.encode.Needs as need
 
