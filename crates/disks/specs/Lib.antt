@@ -3,3 +3,4 @@ pub mod Disks
 pub mod Cluster
 pub mod Over
 pub mod Promise
+pub mod Worked

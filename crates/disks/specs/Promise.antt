@@ -8,7 +8,7 @@ use Prim.Native.Nat.{ℕ, zero, suc, _+_, _*_, _/_, _<_, _≤_}
 use lib.Dec.{eqb, ltb, leb, T}
 use lib.ListN.{length}
 use Rattle.disks.specs.Device.{Device, blankDevice, zeros, shown, written, synced, AfterCut, Machine, Judge, Keeps}
-use Rattle.disks.specs.Disks.{Volume, Picture, State, blank, some, keep, find, Call, Make, Attach, Read, Write, Sync, Picture', Copy, Drop, DropPicture, Reply, No, Yes, Num, Token, Sector, does, Answers, Cut, isVolume, isPicture, weight, core}
+use Rattle.disks.specs.Disks.{Volume, Picture, State, blank, some, keep, find, Call, Make, Attach, Read, Write, Sync, Picture', Copy, Drop, DropPicture, Reply, No, Yes, Num, Token, Sector, Out, no, does, Answers, Cut, isVolume, isPicture, weight, core}
 use Rattle.disks.specs.Cluster.{House, Plain, AsOne, Answers as Answering, BusyAtNine, Within}
 
 -- How much there is room for, in sectors. In the core a quarter of one house's device after 2,048 sectors of it, so that every copy may
@@ -52,6 +52,15 @@ OldTokensNothing =
     (s t : State) → Run blank s → (v k z n : ℕ) (b : List ℕ) → does (Attach v) s .reply ≡ Token k z → Run (does (Attach v) s .state) t → (o : ℕ) → o < k →
     (does (Write v o n b) t .state ≡ t) × (does (Sync v o) t .state ≡ t) × (does (Drop v o) t .state ≡ t) × (does (Picture' v o) t .state ≡ t)
 
+-- Stronger: such a call is refused, by 4 or, once the volume is gone, by 2; a write that isn't 512 bytes by 1.
+abbrev pub Refused : Out → State → Type 0
+Refused o s = (o ≡ no 4 s) ⊎ (o ≡ no 2 s)
+
+abbrev pub OldTokensRefused : Type 0
+OldTokensRefused =
+    (s t : State) → Run blank s → (v k z n : ℕ) (b : List ℕ) → does (Attach v) s .reply ≡ Token k z → Run (does (Attach v) s .state) t → (o : ℕ) → o < k →
+    Refused (does (Read v o n) t) t × (Refused (does (Write v o n b) t) t ⊎ (does (Write v o n b) t ≡ no 1 t)) × Refused (does (Sync v o) t) t × Refused (does (Drop v o) t) t × Refused (does (Picture' v o) t) t
+
 -- 2. Volumes are apart: what is called of one changes no other, nor any picture.
 abbrev pub Apart : Type 0
 Apart =
@@ -73,3 +82,15 @@ pub data Uses (v t z : ℕ) : State → Device → Type 0 where
 
 abbrev pub IsADevice : Type 0
 IsADevice = (v t z n : ℕ) (s : State) (d : Device) (b : List ℕ) → Uses v t z s d → does (Read v t n) s .reply ≡ Sector b → b ≡ shown d n
+
+-- Stronger than Apart: no call of one volume changes what is found under another's number.
+abbrev pub ApartAll : Type 0
+ApartAll =
+    (s : State) (v u t n : ℕ) (b : List ℕ) → (u ≡ v → ⊥) →
+    (find (isVolume u) (does (Attach v) s .state .volumes) ≡ find (isVolume u) (s .volumes)) × (find (isVolume u) (does (Write v t n b) s .state .volumes) ≡ find (isVolume u) (s .volumes)) ×
+    (find (isVolume u) (does (Sync v t) s .state .volumes) ≡ find (isVolume u) (s .volumes)) × (find (isVolume u) (does (Drop v t) s .state .volumes) ≡ find (isVolume u) (s .volumes)) ×
+    (find (isVolume u) (does (Picture' v t) s .state .volumes) ≡ find (isVolume u) (s .volumes))
+
+-- And what a cut leaves of a volume is what a cut leaves of a device.
+abbrev pub CutAsADevice : Type 0
+CutAsADevice = (v t z : ℕ) (s u : State) (d : Device) (x : Volume) → Uses v t z s d → Cut s u → find (isVolume v) (u .volumes) ≡ x ∷ [] → (x .disk ≡ d) ⊎ AfterCut d (x .disk)

@@ -1,0 +1,10 @@
+-- The worked cases, by computing.
+use mathlib.Core.Path.{refl}
+use lib.ListN.{replicate}
+use Rattle.disks.specs.Device.{latest, allBytes}
+use Rattle.disks.specs.Disks.{find, change, keep, attaches, holding, copies, does}
+use Rattle.disks.specs.Worked.{WorkedCases, replies}
+
+pub worked-cases : WorkedCases
+unfolding replies does find change keep attaches holding copies latest allBytes
+worked-cases = refl

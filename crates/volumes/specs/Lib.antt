@@ -1,0 +1,3 @@
+pub mod Weights
+pub mod Service
+pub mod Simulation
