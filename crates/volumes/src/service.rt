@@ -46,15 +46,22 @@ const ROOM_SHARE: u64 = 4;
 // What a volume weighs besides its sectors.
 const VOLUME_WEIGHT: u64 = 64;
 
+// The room for volumes where each house's device has so many sectors.
+pub fn room_of(sectors: u64) -> u64
+    ensures value { λ r. ⌜ r ≡ (sectors - 2048) / 4 ⌝ }
+    ensures core { λ _. ⌜ RoomIsCore ⌝ }
+{
+    sectors.saturating_sub(TABLE_SECTORS) / ROOM_SHARE
+}
+
 impl Volumes {
     // No volumes yet, with room for what a house's device of so many sectors leaves.
     // Takes memory for as many heads as there may be, so that no call needs more.
     pub fn new(heap: Global, sectors: u64) -> Result<Volumes, AllocError>
-        ensures made { λ r. ⌜ made r (λ v. (theService v ≡ blankService) × (v .room ≡ (sectors - 2048) / 4)) ⌝ }
-        ensures room { λ _. ⌜ RoomIsCore ⌝ }
+        ensures { λ r. ⌜ made r (λ v. (theService v ≡ blankService) × (v .room ≡ (sectors - 2048) / 4)) ⌝ }
     {
         let heads = Vec::with_capacity(heap, MOST_VOLUMES)?;
-        let room = sectors.saturating_sub(TABLE_SECTORS) / ROOM_SHARE;
+        let room = room_of(sectors);
         Ok(Volumes {
             heads,
             next: 1,
