@@ -1,6 +1,5 @@
 //! Compares the proved codec with the second one: what bytes decode to, what is refused and by which number, and what is encoded.
 mod proved;
-mod random;
 
 use proved::{AnswerParts, CallParts, FrameParts};
 use random::Random;

@@ -1,0 +1,3 @@
+fn main() {
+    link::link("place_exports", &["disks", "bytes", "wire", "volumes", "place"]);
+}
