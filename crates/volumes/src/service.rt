@@ -189,7 +189,7 @@ impl Volumes {
             Ok(held) => held,
             Err(refusal) => return refuses(refusal),
         };
-        if sector.0 >= head.size.0 {
+        if head.size.0 <= sector.0 {
             return refuses(Refusal::Malformed);
         }
         let was = is_blank(read);

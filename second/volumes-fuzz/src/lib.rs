@@ -48,7 +48,7 @@ pub fn play(seed: u64, runs: usize) -> Result<Tally, String> {
     for run in 0..runs {
         // rooms from too small for one volume to ample
         let sectors = 2048 + 4 * [0, 63, 64, 65, 200, 400, 1000, 1 << 20][random.below(8)];
-        let calls: Vec<Vec<u8>> = calls(&mut random);
+        let calls = calls(&mut random, core_room(sectors));
         let answers = proved(sectors, &calls)?;
         let mut place = Place::new(core_room(sectors), false);
         for (i, (bytes, (weight, answer))) in calls.iter().zip(&answers).enumerate() {
@@ -81,39 +81,46 @@ fn proved(sectors: u64, calls: &[Vec<u8>]) -> Result<Vec<(u64, Vec<u8>)>, String
     if answers.len() == calls.len() { Ok(answers) } else { Err(format!("{} answers to {}", answers.len(), calls.len())) }
 }
 
-/// A run of calls on few volumes, tokens and sectors, so that they meet; some with numbers at the edges.
-fn calls(random: &mut Random) -> Vec<Vec<u8>> {
-    let mut last_token = 1;
+/// A run of calls on a few volumes and sectors, so that they meet, mostly under the present token; some with numbers at the edges.
+fn calls(random: &mut Random, room: u64) -> Vec<Vec<u8>> {
+    let mut guide = Place::new(room, false);
     (0..RUN)
         .map(|_| {
-            let volume = if random.below(20) == 0 { random.number() } else { 1 + random.below(6) as u64 };
-            let token = match random.below(8) {
-                0 => random.below(4) as u64,
-                1 => random.number(),
-                _ => last_token,
-            };
-            let sector = if random.below(10) == 0 { random.number() } else { random.below(12) as u64 };
-            let size = [0, 1, 10, 12, 100, LARGEST, LARGEST + 1, LIMIT][random.below(8)];
-            let fill = [0, 0, 1, 255][random.below(4)];
-            let (kind, numbers) = match random.below(20) {
-                0 | 1 => (1, vec![size]),
-                2 | 3 => {
-                    last_token = 1 + random.below(4) as u64;
-                    (2, vec![volume])
-                }
-                4..=8 => (3, vec![volume, token, sector]),
-                9..=15 => (4, vec![volume, token, sector]),
-                16 => (5, vec![volume, token]),
-                17 => (8, vec![volume, token]),
-                18 => (6, vec![volume, token]),
-                _ => (7, vec![volume]),
-            };
-            let mut content = if kind == 4 { vec![fill; SECTOR] } else { Vec::new() };
-            if kind == 4 && random.below(4) == 0 {
-                // one byte somewhere
-                content[random.below(SECTOR)] = random.below(2) as u8;
+            let call = some_call(random, &guide.held_now());
+            let bytes = call.encode();
+            if Call::decode(&bytes).is_ok() {
+                guide.answer(&call);
             }
-            Call { kind, numbers, content }.encode()
+            bytes
         })
         .collect()
+}
+
+fn some_call(random: &mut Random, held: &[(u64, u64)]) -> Call {
+    let (mut volume, mut token) = if held.is_empty() { (1, 1) } else { held[random.below(held.len())] };
+    match random.below(16) {
+        0 => volume = random.number(),
+        1 => token = random.number(),
+        2 => token = token.wrapping_sub(1),
+        _ => {}
+    }
+    let sector = if random.below(10) == 0 { random.number() } else { random.below(14) as u64 };
+    let size = [0, 1, 10, 12, 100, LARGEST, LARGEST + 1, LIMIT][random.below(8)];
+    let (kind, numbers) = match random.below(40) {
+        0..=2 => (1, vec![size]),
+        3..=6 => (2, vec![volume]),
+        7..=18 => (3, vec![volume, token, sector]),
+        19..=34 => (4, vec![volume, token, sector]),
+        35 | 36 => (5, vec![volume, token]),
+        37 => (8, vec![volume, token]),
+        38 => (6, vec![volume, token]),
+        _ => (7, vec![volume]),
+    };
+    let mut content = Vec::new();
+    if kind == 4 {
+        content = vec![[0, 0, 1, 255][random.below(4)]; SECTOR];
+        // often one byte of its own somewhere
+        content[random.below(SECTOR)] = random.below(3) as u8;
+    }
+    Call { kind, numbers, content }
 }

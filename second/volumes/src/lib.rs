@@ -58,6 +58,11 @@ impl Place {
         volumes + pictures
     }
 
+    /// The volumes that there are, each with its present token.
+    pub fn held_now(&self) -> Vec<(u64, u64)> {
+        self.volumes.iter().map(|(number, volume)| (*number, volume.token)).collect()
+    }
+
     pub fn answer(&mut self, call: &Call) -> Answer {
         let n = |i: usize| call.numbers[i];
         let done = match call.kind {
