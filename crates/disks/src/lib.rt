@@ -1,7 +1,7 @@
 // The meaning of the whole and what is promised of it are in specs/; here is what the code needs of them.
 ghost use mathlib.Core.Path.{_≡_};
 ghost use lib.Dec.{eqb};
-ghost use Rattle.disks.specs.Worked.{WorkedCases};
+ghost use Rattle.disks.specs.Worked.{WorkedCases, CopySynced};
 ghost use Rattle.disks.specs.Promise.{OldTokensNothing, OldTokensRefused, Apart, ApartAll, PicturesStand, IsADevice, CutAsADevice};
 
 // Who has a volume: under which token.
@@ -28,6 +28,7 @@ pub fn volumes_promised() -> u8
     ensures device { λ _. ⌜ IsADevice ⌝ }
     ensures cut { λ _. ⌜ CutAsADevice ⌝ }
     ensures worked { λ _. ⌜ WorkedCases ⌝ }
+    ensures synced { λ _. ⌜ CopySynced ⌝ }
 {
     0
 }

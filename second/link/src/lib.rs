@@ -1,4 +1,5 @@
 //! For build scripts: builds a proved crate as a static library and links it, with the toolchain's own allocator glue.
+use std::fs::File;
 use std::path::{Path, PathBuf};
 use std::process::Command;
 
@@ -18,7 +19,12 @@ pub fn link(library: &str, leans_on: &[&str]) {
     }
     let archives = root.join("target/staticlib");
     println!("cargo:rerun-if-changed={}", archives.join(format!("lib{library}.a")).display());
+    // cargo runs build scripts side by side, and rt wants the repository for itself
+    std::fs::create_dir_all(&archives).expect("target/ can be made");
+    let lock = File::create(archives.join("lock")).expect("a lock file can be made");
+    lock.lock().expect("the lock is had");
     rt(&root, &["staticlib", library]);
+    drop(lock);
     let guide = PathBuf::from(rt(&root, &["doc"]).trim());
     let kit = guide.ancestors().nth(2).expect("the guide lies in the toolchain's folder");
     println!("cargo:rustc-link-search=native={}", archives.display());

@@ -1,6 +1,6 @@
 //! Plays random calls on the proved volumes and on the second ones: answers and weights must be the same.
 use random::Random;
-use second_volumes::{LARGEST, LIMIT, Place, core_room};
+use second_volumes::{LARGEST, LIMIT, MOST, Place, core_room};
 use second_wire::{Answer, Call, Framed, SECTOR, decode_frame, encode_frame};
 
 unsafe extern "C" {
@@ -49,22 +49,33 @@ pub fn play(seed: u64, runs: usize) -> Result<Tally, String> {
         // rooms from too small for one volume to ample
         let sectors = 2048 + 4 * [0, 63, 64, 65, 200, 400, 1000, 1 << 20][random.below(8)];
         let calls = calls(&mut random, core_room(sectors));
-        let answers = proved(sectors, &calls)?;
-        let mut place = Place::new(core_room(sectors), false);
-        for (i, (bytes, (weight, answer))) in calls.iter().zip(&answers).enumerate() {
-            let second = Call::decode(bytes).map_or_else(Answer::Refused, |call| place.answer(&call));
-            tally.note(&second);
-            if Answer::decode(answer).as_ref() != Some(&second) || *weight != place.weight() {
-                let weight_there = place.weight();
-                return Err(format!(
-                    "run {run}, call {i} {:?}: proved {:?} at {weight}, second {second:?} at {weight_there}",
-                    Call::decode(bytes).map(|c| (c.kind, c.numbers)),
-                    Answer::decode(answer)
-                ));
-            }
-        }
+        compare(sectors, &calls, &mut tally).map_err(|difference| format!("run {run}, {difference}"))?;
     }
     Ok(tally)
+}
+
+/// Makes more volumes than there may be.
+pub fn play_makes() -> Result<Tally, String> {
+    let mut tally = Tally::default();
+    let makes = vec![Call { kind: 1, numbers: vec![1], content: Vec::new() }.encode(); MOST + 4];
+    compare(1 << 30, &makes, &mut tally)?;
+    Ok(tally)
+}
+
+/// Plays calls on both and compares each answer, and what all weigh after it.
+fn compare(sectors: u64, calls: &[Vec<u8>], tally: &mut Tally) -> Result<(), String> {
+    let mut place = Place::new(core_room(sectors), false);
+    for (i, (bytes, (weight, answer))) in calls.iter().zip(proved(sectors, calls)?).enumerate() {
+        let second = Call::decode(bytes).map_or_else(Answer::Refused, |call| place.answer(&call));
+        tally.note(&second);
+        if Answer::decode(&answer).as_ref() != Some(&second) || weight != place.weight() {
+            let call = Call::decode(bytes).map(|c| (c.kind, c.numbers));
+            let proved = Answer::decode(&answer);
+            let there = place.weight();
+            return Err(format!("call {i} {call:?}: proved {proved:?} at {weight}, second {second:?} at {there}"));
+        }
+    }
+    Ok(())
 }
 
 /// The answers of the proved code, each with what all weigh after it.
