@@ -6,6 +6,8 @@ use Rattle.compose.specs.Houses.{houses-compose}
 use Rattle.compose.specs.Inside.{within-over, HousesWithin, houses-within}
 use Rattle.compose.specs.Along.{LinearAlong, linear-along}
 use Rattle.compose.specs.Many.{ManyAtOnce, many-at-once, AnyWaiting, any-waiting}
+use Rattle.compose.specs.Simulation.{Carries, CarriesWithin}
+use Rattle.compose.specs.Transfer.{carries, carries-within}
 use Rattle.compose.specs.Ways.{HousesBusy, houses-busy, HousesAnswer, houses-answer}
 
 pub data Shown {A : Type 1} (proof : A) : Type 0 where
@@ -37,3 +39,9 @@ ManyHeld = Shown {A = ManyAtOnce} many-at-once
 
 abbrev pub AnyHeld : Type 0
 AnyHeld = Shown {A = AnyWaiting} any-waiting
+
+abbrev pub CarriesHeld : Type 0
+CarriesHeld = Shown {A = Carries} carries
+
+abbrev pub CarriesWithinHeld : Type 0
+CarriesWithinHeld = Shown {A = CarriesWithin} carries-within

@@ -4,4 +4,7 @@ pub mod Inside
 pub mod Ways
 pub mod Along
 pub mod Many
+pub mod Pure
+pub mod Simulation
+pub mod Transfer
 pub mod Held

@@ -1,5 +1,5 @@
 // Composition: what is right above a judge is right above every machine that keeps to it. Shown once, used at every layer.
-ghost use Rattle.compose.specs.Held.{LayersHeld, WithinHeld, HousesHeld, HousesWithinHeld, HousesBusyHeld, HousesAnswerHeld, AlongHeld, ManyHeld, AnyHeld};
+ghost use Rattle.compose.specs.Held.{LayersHeld, WithinHeld, HousesHeld, HousesWithinHeld, HousesBusyHeld, HousesAnswerHeld, AlongHeld, ManyHeld, AnyHeld, CarriesHeld, CarriesWithinHeld};
 
 // A layer on a machine: it keeps to its judge, and stays within the device.
 pub fn layers_compose() -> u8
@@ -24,6 +24,14 @@ pub fn histories_hold() -> u8
     ensures along { λ _. ⌜ AlongHeld ⌝ }
     ensures many { λ _. ⌜ ManyHeld ⌝ }
     ensures any { λ _. ⌜ AnyHeld ⌝ }
+{
+    0
+}
+
+// A house on a device that simulates a pure house: it is as one place, busy only at nine, and within its device, as the pure house is.
+pub fn pure_houses_carry() -> u8
+    ensures carries { λ _. ⌜ CarriesHeld ⌝ }
+    ensures within { λ _. ⌜ CarriesWithinHeld ⌝ }
 {
     0
 }
