@@ -1,4 +1,6 @@
 // A script's lines, in words.
+ghost use Rattle.std.specs.Vec.{made};
+ghost use Rattle.rehearse.specs.Scripts.{InRange};
 use bytes::SECTOR_BYTES;
 use bytes::writer::message;
 use bytes::writer::put_number;
@@ -49,7 +51,9 @@ pub impl<T: Drop> From<Refused<T>> for ScriptError as ScriptErrorFromRefused {
 }
 
 // The step that a line tells.
-pub fn parse(heap: Global, line: &str) -> Result<Step, ScriptError> {
+pub fn parse(heap: Global, line: &str) -> Result<Step, ScriptError>
+    ensures { λ r. ⌜ made r InRange ⌝ }
+{
     let mut words = line.split_whitespace();
     let Some(first) = words.next() else {
         return Ok(Step::Nothing);
@@ -69,7 +73,9 @@ pub fn parse(heap: Global, line: &str) -> Result<Step, ScriptError> {
     }
 }
 
-fn houses(words: &mut SplitWhitespace) -> Result<Step, ScriptError> {
+fn houses(words: &mut SplitWhitespace) -> Result<Step, ScriptError>
+    ensures { λ r. ⌜ made r InRange ⌝ }
+{
     let houses = number(words)?;
     let sectors = number(words)?;
     if houses < LEAST_HOUSES
