@@ -25,9 +25,6 @@ use Rattle.bytes.proofs.Fields.{length-numbers, field-at, fields, fields-spell,
 number-back : (n : ℕ) (e : Refusal) → refusalOf n ≡ Some e → refusalNumber e ≡ n
 number-back n e h = grind (arith, tells)
 
-same : (n : ℕ) → eqb n n ≡ true
-same n = grind (arith, tells)
-
 field-alone : (i : ℕ) (ns : List ℕ) → T (small ns) → i < length ns → field i (numbersBytes ns) ≡ getD ns i 0
 field-alone i ns h l = ap (field i) (sym (append-nil (numbersBytes ns))) ∙ field-at i ns [] h l
 
