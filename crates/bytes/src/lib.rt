@@ -1,4 +1,6 @@
 // Numbers and sectors as bytes, high byte first.
+#![tactic(auto)]
+
 pub mod reader;
 pub mod writer;
 

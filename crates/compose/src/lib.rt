@@ -1,4 +1,6 @@
 // Composition: what is right above a judge is right above every machine that keeps to it. Shown once, used at every layer.
+#![tactic(auto)]
+
 ghost use Rattle.compose.specs.Held.{LayersHeld, WithinHeld, HousesHeld, HousesWithinHeld, HousesBusyHeld, HousesAnswerHeld, AlongHeld, ManyHeld, AnyHeld, TakenHeld, TakenToldHeld, TakenBusyHeld, TakenManyHeld, PastHeld, OneInsertedHeld, CarriesHeld, CarriesWithinHeld, CarriesAnswersHeld};
 
 // A layer on a machine: it keeps to its judge, and stays within the device.

@@ -1,4 +1,6 @@
 // Plays transactions by chance on a disk in memory whose power fails at any request, and compares what is found with a plain array.
+#![tactic(auto)]
+
 mod model;
 mod random;
 

@@ -1,4 +1,6 @@
 // Writes to the file `device`, for a script that takes the time: so many transactions of so many sectors, or as often one sector and a sync.
+#![tactic(auto)]
+
 use anyhow::anyhow;
 use bytes::BLANK_SECTOR;
 use device::disk::Disk;

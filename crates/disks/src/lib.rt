@@ -1,4 +1,6 @@
 // The meaning of the whole and what is promised of it are in specs/; here is what the code needs of them.
+#![tactic(auto)]
+
 ghost use Rattle.std.specs.Prelude.{◌≡◌, eqb};
 ghost use Rattle.disks.specs.Worked.{WorkedCases, CopySynced};
 ghost use Rattle.disks.specs.Promise.{OldTokensNothing, OldTokensRefused, Apart, ApartAll, PicturesStand, IsADevice, CutAsADevice};

@@ -1,4 +1,6 @@
 // `wire` for programs in other languages: functions on numbers and byte strings, by which tests compare it with a second decoder.
+#![tactic(auto)]
+
 ghost use Rattle.std.specs.Prelude.{◌≡◌, ◌<◌, take};
 ghost use Rattle.std.specs.Option.{option_map};
 ghost use Rattle.wire.specs.Answers.{answered_by, the_reply};

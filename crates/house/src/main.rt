@@ -1,4 +1,6 @@
 // Runs one house on the file `device`: lines in, packets and answers out.
+#![tactic(auto)]
+
 ghost use Rattle.std.specs.Prelude.{◌≡◌};
 ghost use Rattle.disks.specs.Disks.{No};
 ghost use Rattle.wire.specs.Answers.{the_reply};

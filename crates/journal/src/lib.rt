@@ -1,5 +1,7 @@
 // The journal's format: how a transaction is written down before it is done, so that it is done whole or not at all.
 // A record is spread over sectors that each carry its number, so that it is complete exactly when all of them do.
+#![tactic(auto)]
+
 pub mod part;
 pub mod scan;
 pub mod state;

@@ -1,4 +1,6 @@
 // A disk in memory, for rehearsals and tests: it can be told to fail, and at a cut it loses what was not synced.
+#![tactic(auto)]
+
 ghost use Rattle.std.specs.Prelude.{◌≡◌, ℕ};
 ghost use Rattle.disks.specs.Device.{latest};
 ghost use Rattle.memory_disk.specs.Contents.{kept_at, shown_at, since_in};

@@ -1,5 +1,7 @@
 // `place` for programs in other languages: a list of calls in, a list of answers out, by which tests compare it with a second
 // implementation. What it calls is proved below; here only that it stays within `out`.
+#![tactic(auto)]
+
 ghost use Rattle.std.specs.Prelude.{◌≤◌, length};
 
 use place::one_place::OnePlace;

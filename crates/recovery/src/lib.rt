@@ -1,4 +1,6 @@
 // What is promised of the journal, over whatever can happen to its device.
+#![tactic(auto)]
+
 ghost use Rattle.recovery.specs.Machines.{JournalKeeps, JournalWithin};
 ghost use Rattle.recovery.specs.Promises.{PutCosts, OpenCosts, OpensAgain, ForeignRefused, OursOpened};
 

@@ -1,4 +1,6 @@
 // Plays a script of calls and prints what each is answered.
+#![tactic(auto)]
+
 mod script;
 
 use bytes::SECTOR_BYTES;

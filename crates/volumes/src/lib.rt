@@ -1,4 +1,6 @@
 // The service: volumes and what each call does to them, as if in one place. It knows heads and weights; sectors are handed in and out.
+#![tactic(auto)]
+
 pub mod head;
 pub mod outcome;
 pub mod service;

@@ -1,4 +1,6 @@
 // Calls and answers as bytes, high byte first, and the frame that carries them on a line.
+#![tactic(auto)]
+
 pub mod answer;
 pub mod call;
 pub mod frame;
