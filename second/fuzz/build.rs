@@ -1,3 +1,3 @@
 fn main() {
-    link::link("exports", &["disks", "bytes", "wire"]);
+    link::link("exports", &["disks", "octets", "wire"]);
 }

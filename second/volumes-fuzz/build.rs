@@ -1,3 +1,3 @@
 fn main() {
-    link::link("place_exports", &["disks", "bytes", "wire", "volumes", "place"]);
+    link::link("place_exports", &["disks", "octets", "wire", "volumes", "place"]);
 }

@@ -1,6 +1,6 @@
 // The plain array that the journal is compared with: a few sectors of the device, and the transaction that was cut, if one was.
 use crate::random::Random;
-use bytes::{BLANK_SECTOR, SECTOR_BYTES};
+use octets::{BLANK_SECTOR, SECTOR_BYTES};
 use journal::state::Write;
 use journal::{GUARDED, Place};
 use std::alloc::{AllocError, Global};

@@ -4,7 +4,7 @@ ghost use Rattle.device.specs.Does.{Act, broke, Does, read_io, write_io, sync_io
 ghost use Rattle.device.specs.Tied.{Models, DoesRuns};
 ghost use Rattle.device.specs.Runs.{all_run};
 
-use bytes::SECTOR_BYTES;
+use octets::SECTOR_BYTES;
 use journal::Place;
 
 // The power failed, or the disk did not answer: whoever asked gives up.

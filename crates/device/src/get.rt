@@ -3,7 +3,7 @@ ghost use Rattle.device.specs.Does.{Act, Does};
 ghost use Rattle.journal.specs.Programs.{get_io};
 
 use crate::disk::{Disk, Fault};
-use bytes::BLANK_SECTOR;
+use octets::BLANK_SECTOR;
 use journal::Place;
 use journal::state::{Got, Journal, Refused, is_guarded};
 

@@ -4,7 +4,7 @@ ghost use Rattle.journal.specs.Programs.{scan_io, open_io};
 
 use crate::disk::{Disk, Fault};
 use crate::recover::recover;
-use bytes::BLANK_SECTOR;
+use octets::BLANK_SECTOR;
 use journal::scan::Scan;
 use journal::state::{Opened, Slot};
 use journal::{Place, SLOT_SECTORS};

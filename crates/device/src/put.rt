@@ -5,7 +5,7 @@ ghost use Rattle.device.specs.Told.{leaving};
 ghost use Rattle.journal.specs.Programs.{write_all_io, record_of, transact_io, put_io};
 
 use crate::disk::{Disk, Fault};
-use bytes::BLANK_SECTOR;
+use octets::BLANK_SECTOR;
 use journal::part::{fill_first_half, fill_second_half};
 use journal::state::{Journal, Outcome, Refused, Write, is_allowed};
 use journal::{NUMBERS_END, Place};

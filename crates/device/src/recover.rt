@@ -4,7 +4,7 @@ ghost use Rattle.device.specs.Does.{Act, Does};
 ghost use Rattle.journal.specs.Programs.{replay_from, redo_io, recover_io};
 
 use crate::disk::{Disk, Fault};
-use bytes::BLANK_SECTOR;
+use octets::BLANK_SECTOR;
 use journal::Place;
 use journal::part::{Part, join_halves};
 use journal::scan::Scan;

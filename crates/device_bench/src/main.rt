@@ -2,7 +2,7 @@
 #![tactic(auto)]
 
 use anyhow::anyhow;
-use bytes::BLANK_SECTOR;
+use octets::BLANK_SECTOR;
 use device::disk::Disk;
 use device::open::open;
 use device::put::put;

@@ -9,8 +9,8 @@ ghost use Rattle.wire.specs.Frames.{framed, frame_bytes};
 ghost use Rattle.wire.specs.Kinds.{is_built};
 ghost use Rattle.exports.specs.Parts.{call_parts, answer_parts, frame_parts, call_from, PutCall, answer_from, PutAnswer, Again};
 
-use bytes::SECTOR_BYTES;
-use bytes::reader::sector;
+use octets::SECTOR_BYTES;
+use octets::reader::sector;
 use std::alloc::Global;
 use wire::answer::Answer;
 use wire::call::Call;

@@ -6,7 +6,7 @@ ghost use Rattle.file_disk.specs.Disks.{disk_did, DiskHolds, Outside, Failed};
 ghost use Rattle.file_disk.specs.Models.{disk_models};
 
 use crate::places::Places;
-use bytes::SECTOR_BYTES;
+use octets::SECTOR_BYTES;
 use device::disk::{Disk, Fault};
 use journal::Place;
 

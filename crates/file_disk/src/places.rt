@@ -3,7 +3,7 @@ ghost use Rattle.std.specs.Prelude.{◌⊎◌, MatchResult};
 ghost use Rattle.disks.specs.Device.{Device};
 ghost use Rattle.file_disk.specs.Files.{FileAct, failed, read_at, wrote_at, flushed, FileModels, Unknown, unknown_models};
 
-use bytes::SECTOR_BYTES;
+use octets::SECTOR_BYTES;
 use std::fs::File;
 use std::io;
 use std::io::{Read, Seek, SeekFrom, Write};

@@ -2,8 +2,8 @@
 use Rattle.std.proofs.Common.{◌≡◌, ℕ, ◌+◌, ◌-◌, List, [], ◌∷◌, ◌++◌, length, take, drop, replicate, sym, refl, ap, ◌∙◌, subst, append_assoc, append-nil, arith, length-append}
 use borrow.Rule.Slice.PartMut.{put_mid}
 use Rattle.std.proofs.lemmas.List.{take_at, drop_at}
-use Rattle.bytes.specs.Numbers.{bytes_of, numbers_bytes}
-use Rattle.bytes.proofs.Numbers.{length-bytes_of}
+use Rattle.octets.specs.Numbers.{bytes_of, numbers_bytes}
+use Rattle.octets.proofs.Numbers.{length-bytes_of}
 use Rattle.journal.specs.declared.part.Part.{Part}
 use Rattle.journal.specs.Format.{mark, part_bytes}
 

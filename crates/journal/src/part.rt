@@ -1,11 +1,11 @@
 // One sector of a record: which record, where in it, how long the record is, the sector that is to be written, and half of its bytes.
 ghost use Rattle.std.specs.Prelude.{◌≡◌, ◌++◌, take, drop};
-ghost use Rattle.bytes.specs.Numbers.{field};
+ghost use Rattle.octets.specs.Numbers.{field};
 ghost use Rattle.journal.specs.Format.{part_bytes, part_of, half_of, is_sound, found};
 
 use crate::state::{Write, is_guarded};
 use crate::{MARK, NUMBERS_END, Place, SLOT_SECTORS};
-use bytes::{SECTOR_BYTES, reader};
+use octets::{SECTOR_BYTES, reader};
 
 // Half of a sector.
 pub const HALF_BYTES: usize = 256;

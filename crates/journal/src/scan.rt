@@ -4,7 +4,7 @@ ghost use Rattle.journal.specs.Scans.{scan_start, scan_part, scan_next, redo_num
 
 use crate::SLOT_SECTORS;
 use crate::part::{Found, Part};
-use bytes::SECTOR_BYTES;
+use octets::SECTOR_BYTES;
 
 // number, length: of the record that the slot begins with; whole: all its sectors so far are its own;
 // highest: the highest number of any sector; ours: no sector was foreign.

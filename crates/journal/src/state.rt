@@ -5,7 +5,7 @@ ghost use Rattle.journal.specs.Programs.{base, other, ready, after_put, in_area,
 
 use crate::scan::Scan;
 use crate::{GUARDED, MOST_WRITES, NOT_OURS, NUMBERS_END, Place, SLOT_SECTORS};
-use bytes::SECTOR_BYTES;
+use octets::SECTOR_BYTES;
 
 // One sector of a transaction.
 #[derive(Clone, Copy)]

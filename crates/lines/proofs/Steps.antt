@@ -6,7 +6,7 @@ use Rattle.lines.specs.Decimals.{with_digit, decimal_from, decimal_of}
 use Rattle.lines.specs.Hexes.{digit_of, digit_for, byte_in, with_byte, bytes_in, hex_of, HexRoundTrip}
 use Rattle.lines.specs.Lines.{Parts, with_front, cut_at}
 use Rattle.std.proofs.lemmas.Bool.Decides.{nat_tests}
-use Rattle.bytes.proofs.Numbers.{first_byte}
+use Rattle.octets.proofs.Numbers.{first_byte}
 
 -- a turn over decimal digits, by what one digit gave
 pub digit_more : (n : ℕ) (ds : List ℕ) (i : ℕ) (o : Option ℕ) → i < length ds → with_digit n (get_or ds i 0) ≡ o → decimal_from n (drop i ds) ≡ elim o [ None ↦ None | Some m ↦ decimal_from m (drop (i + 1) ds) ]

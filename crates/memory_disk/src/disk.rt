@@ -5,7 +5,7 @@ ghost use Rattle.memory_disk.specs.Disks.{MemoryDid, MemoryHolds, answers, Count
 ghost use Rattle.memory_disk.specs.Models.{memory_models};
 
 use crate::MemoryDisk;
-use bytes::SECTOR_BYTES;
+use octets::SECTOR_BYTES;
 use device::disk::{Disk, Fault};
 use journal::Place;
 use journal::state::Write;

@@ -1,5 +1,5 @@
 // What became of sectors, one change after the other.
-use bytes::SECTOR_BYTES;
+use octets::SECTOR_BYTES;
 use wire::number::*;
 
 #[derive(Clone, Copy)]

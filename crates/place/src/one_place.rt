@@ -8,7 +8,7 @@ ghost use Rattle.wire.specs.Kinds.{is_built};
 ghost use Rattle.place.specs.Places.{the_kept, the_sectors, the_store, Tells, Played, Answered};
 
 use crate::kept::Kept;
-use bytes::{BLANK_SECTOR, SECTOR_BYTES};
+use octets::{BLANK_SECTOR, SECTOR_BYTES};
 use std::alloc::{AllocError, Global};
 use volumes::outcome::Change;
 use volumes::service::needs;

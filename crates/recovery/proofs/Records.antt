@@ -12,7 +12,7 @@ use Rattle.journal.specs.declared.part.Part.{Part}
 use Rattle.journal.specs.declared.part.Found.{Found}
 use Rattle.journal.specs.declared.part.Found.TheVariants.{Blank, Part as IsPart, Foreign}
 use Rattle.journal.specs.declared.state.Write.{Write}
-use Rattle.bytes.proofs.Fields.{bytes_take, bytes_drop}
+use Rattle.octets.proofs.Fields.{bytes_take, bytes_drop}
 use Rattle.recovery.proofs.Sound.{Sound, part_back, found_part, half_back, length_part, bytes-part}
 use Rattle.recovery.proofs.Writing.{Among, this, further}
 use Rattle.recovery.proofs.Lasts.{last_other}

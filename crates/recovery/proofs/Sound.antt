@@ -2,9 +2,9 @@
 use Rattle.std.proofs.Common.{◌≡◌, ℕ, zero, suc, ◌+◌, ◌*◌, ◌/◌, ◌%◌, ◌^◌, ◌<◌, ◌≤◌, Bool, true, false, cond, ◌&&◌, T, eqb, ltb, leb, ◌⊎◌, List, [], ◌∷◌, ◌++◌, length, get_or, take, drop, replicate, sym, refl, ap, ◌∙◌, subst, inl, inr, append_assoc, arith, length-append, ltb-true, lt-ltb, eq-eqb, eqb-true, le-leb, leb-true}
 use Rattle.std.proofs.lemmas.List.{take_at, drop_at, drop-drop}
 use Rattle.disks.specs.Device.{zeros, all_bytes}
-use Rattle.bytes.specs.Numbers.{field, numbers_bytes, small, bytes_of}
-use Rattle.bytes.proofs.Numbers.{length-bytes_of, join}
-use Rattle.bytes.proofs.Fields.{field_at, length-numbers}
+use Rattle.octets.specs.Numbers.{field, numbers_bytes, small, bytes_of}
+use Rattle.octets.proofs.Numbers.{length-bytes_of, join}
+use Rattle.octets.proofs.Fields.{field_at, length-numbers}
 use Rattle.journal.specs.Format.{mark, slot_sectors, guarded, numbers_end, part_bytes, part_of, half_of, is_sound, found}
 use Rattle.journal.specs.declared.Place.{Place}
 use Rattle.journal.specs.declared.part.Part.{Part}

@@ -4,7 +4,7 @@ use Rattle.disks.specs.Device
 use Rattle.disks.specs.Device.{Device, Io, answer, read, write, sync, run, Ran, Fair, shown, written, synced, then', Event, World, off, on, Trace, all_bytes}
 use Rattle.compose.specs.Inside.{fair_then}
 use Rattle.compose.specs.Compose.{run_then}
-use Rattle.bytes.proofs.Fields.{bytes_take, bytes_drop}
+use Rattle.octets.proofs.Fields.{bytes_take, bytes_drop}
 use Rattle.journal.specs.Format.{part_of, half_of}
 use Rattle.journal.specs.Scans.{scan_start, scan_next, scanned, redo_count, write_at, writes_from}
 use Rattle.journal.specs.Programs.{base, other, in_area, all_in_area, allowed, write_all_io, record_from, record_of, transact_io, put_io, Put', get_io, after_put, scan_from, scan_io, replay_from, redo_io, recover_io, open_io, ready}

@@ -3,7 +3,7 @@
 
 mod script;
 
-use bytes::SECTOR_BYTES;
+use octets::SECTOR_BYTES;
 use lines::hex;
 use place::one_place::OnePlace;
 use script::{LEAST_HOUSES, LEAST_SECTORS, ScriptError, Step, parse};

@@ -2,8 +2,8 @@
 ghost use Rattle.std.specs.Prelude.{IfOk};
 ghost use Rattle.rehearse.specs.Scripts.{InRange};
 
-use bytes::SECTOR_BYTES;
-use bytes::writer::{message, put_number};
+use octets::SECTOR_BYTES;
+use octets::writer::{message, put_number};
 use lines::decimal::decimal;
 use lines::hex;
 use std::alloc::{AllocError, AllocFailed, Global};

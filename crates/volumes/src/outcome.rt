@@ -1,5 +1,5 @@
 // What a call comes to: an answer, and what becomes of sectors.
-use bytes::SECTOR_BYTES;
+use octets::SECTOR_BYTES;
 use wire::answer::Answer;
 use wire::number::*;
 

@@ -13,7 +13,7 @@ use crate::head::Head;
 use crate::outcome::*;
 use crate::volumes::Volumes;
 use crate::weigh::is_blank;
-use bytes::SECTOR_BYTES;
+use octets::SECTOR_BYTES;
 use std::alloc::{AllocError, Global};
 use wire::answer::Answer;
 use wire::call::Call;

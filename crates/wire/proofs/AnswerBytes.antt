@@ -6,12 +6,12 @@ use Rattle.std.specs.Option.{option_map}
 use Rattle.disks.specs.Device.{all_bytes}
 use Rattle.disks.specs.Disks.{Reply, No, Yes, Num, Token, Sector, Full}
 use Rattle.wire.specs.declared.refusal.Refusal.{Refusal}
-use Rattle.bytes.specs.Numbers.{field, numbers_bytes, small}
+use Rattle.octets.specs.Numbers.{field, numbers_bytes, small}
 use Rattle.wire.specs.Refusals.{refusal_number, refusal_of}
 use Rattle.wire.specs.Answers.{answer_bytes, answered_by, answered_as, refused_by, of_length}
 use Rattle.wire.specs.Promises.{Said, AnswerRoundTrip, AnswerOneSpelling, AnswerBytesSound}
-use Rattle.bytes.proofs.Numbers.{first_byte}
-use Rattle.bytes.proofs.Fields.{length-numbers, field_at, fields, fields_spell, fields-small, exact}
+use Rattle.octets.proofs.Numbers.{first_byte}
+use Rattle.octets.proofs.Fields.{length-numbers, field_at, fields, fields_spell, fields-small, exact}
 
 -- the number of a refusal that was found is the number that it was found by
 number_back : (n : ℕ) (e : Refusal) → refusal_of n ≡ Some e → refusal_number e ≡ n

@@ -8,12 +8,12 @@ use Rattle.disks.specs.Device.{all_bytes}
 use Rattle.disks.specs.Disks.{Call, Make, Attach, Read, Write, Sync, Picture', Copy, Drop, DropPicture, core}
 use Rattle.wire.specs.declared.kind.Kind.{Kind}
 use Rattle.wire.specs.declared.kind.Kind.TheVariants as kinds
-use Rattle.bytes.specs.Numbers.{field, numbers_bytes, small}
+use Rattle.octets.specs.Numbers.{field, numbers_bytes, small}
 use Rattle.wire.specs.Kinds.{number_of, kind_of, kind_in, is_built}
 use Rattle.wire.specs.Calls.{kind_for, numbers_in, content_of, call_bytes, length_for, call_of, parsed_as, Decoded, is_call, is_refused, or_malformed, decoded_as, decoded}
 use Rattle.wire.specs.Promises.{Spelled, RoundTrip, OneSpelling, Refuses, BuiltIsCore, CallBytesSound}
-use Rattle.bytes.proofs.Numbers.{first_byte}
-use Rattle.bytes.proofs.Fields.{length-numbers, field_at, fields, fields_spell, fields-small, exact}
+use Rattle.octets.proofs.Numbers.{first_byte}
+use Rattle.octets.proofs.Fields.{length-numbers, field_at, fields, fields_spell, fields-small, exact}
 
 -- what follows the kind
 abbrev tail : Call → List ℕ

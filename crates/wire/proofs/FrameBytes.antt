@@ -4,10 +4,10 @@ use Rattle.std.proofs.lemmas.Bool.Decides.{nat_tests}
 use Rattle.disks.specs.Device.{all_bytes}
 use Rattle.wire.specs.Promises.{FrameRoundTrip, FrameOneSpelling, FrameBytesSound}
 use Rattle.std.proofs.lemmas.List.{take_at, drop_at}
-use Rattle.bytes.specs.Numbers.{big, bytes_of}
+use Rattle.octets.specs.Numbers.{big, bytes_of}
 use Rattle.wire.specs.Frames.{frame_bytes, framed, framed_as, framed_in, Frames, whole, short, broken}
-use Rattle.bytes.proofs.Numbers.{length-bytes_of, big-bytes_of}
-use Rattle.bytes.proofs.Fields.{big_eight, bytes_take, bytes_drop, bytes-front}
+use Rattle.octets.proofs.Numbers.{length-bytes_of, big-bytes_of}
+use Rattle.octets.proofs.Fields.{big_eight, bytes_take, bytes_drop, bytes-front}
 
 not_less : (m n : ℕ) → n ≤ m → ltb m n ≡ false
 not_less m n h = grind (arith, nat_tests)

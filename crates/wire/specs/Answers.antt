@@ -6,7 +6,7 @@ use Rattle.disks.specs.Disks.{Reply, No, Yes, Num, Token, Sector, Full}
 use Rattle.wire.specs.declared.answer.Answer.{Answer}
 use Rattle.wire.specs.declared.answer.Answer.TheVariants as typed
 use Rattle.wire.specs.declared.refusal.Refusal.{Refusal}
-use Rattle.bytes.specs.Numbers.{field, numbers_bytes}
+use Rattle.octets.specs.Numbers.{field, numbers_bytes}
 use Rattle.wire.specs.Refusals.{refusal_number, refusal_of}
 
 -- the reply of the meaning that the code's value stands for

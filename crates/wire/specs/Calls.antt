@@ -7,7 +7,7 @@ use Rattle.wire.specs.declared.kind.Kind.TheVariants as kinds
 use Rattle.wire.specs.declared.call.Call.{Call as Typed}
 use Rattle.wire.specs.declared.call.Call.TheVariants as typed
 use Rattle.wire.specs.declared.refusal.Refusal.{Refusal}
-use Rattle.bytes.specs.Numbers.{field, numbers_bytes}
+use Rattle.octets.specs.Numbers.{field, numbers_bytes}
 use Rattle.wire.specs.Kinds.{number_of, kind_in}
 use Rattle.wire.specs.Refusals.{refusal_number}
 

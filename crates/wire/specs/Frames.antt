@@ -3,7 +3,7 @@
 use Rattle.std.specs.Prelude.{ℕ, ◌+◌, cond, List, ◌++◌, length, take, drop, nat_lt}
 use Rattle.wire.specs.declared.frame.Framed.{Framed}
 use Rattle.wire.specs.declared.frame.Framed.TheVariants as typed
-use Rattle.bytes.specs.Numbers.{big, bytes_of}
+use Rattle.octets.specs.Numbers.{big, bytes_of}
 
 abbrev pub frame_bytes : (customer : ℕ) → List ℕ → List ℕ
 frame_bytes n body = bytes_of 4 (8 + length body) ++ (bytes_of 8 n ++ body)

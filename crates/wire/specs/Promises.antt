@@ -3,7 +3,7 @@
 use Rattle.std.specs.Prelude.{◌≡◌, ℕ, ◌+◌, ◌*◌, ◌^◌, ◌<◌, Bool, true, false, cond, ◌&&◌, T, ◌⊎◌, List, [], ◌∷◌, ◌++◌, length, is_some, Some, ◌≢◌}
 use Rattle.disks.specs.Device.{all_bytes}
 use Rattle.disks.specs.Disks.{Call, Reply, No, Yes, Num, Token, Sector, Full, core}
-use Rattle.bytes.specs.Numbers.{small}
+use Rattle.octets.specs.Numbers.{small}
 use Rattle.wire.specs.declared.kind.Kind.{Kind}
 use Rattle.wire.specs.Kinds.{kind_in, is_built}
 use Rattle.wire.specs.Refusals.{refusal_of}

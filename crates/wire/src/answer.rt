@@ -6,9 +6,9 @@ ghost use Rattle.wire.specs.Promises.{AnswerBytesSound};
 
 use crate::number::*;
 use crate::refusal::Refusal;
-use bytes::SECTOR_BYTES;
-use bytes::reader::*;
-use bytes::writer::message;
+use octets::SECTOR_BYTES;
+use octets::reader::*;
+use octets::writer::message;
 use std::alloc::{AllocError, Global};
 
 #[derive(Clone, Copy)]

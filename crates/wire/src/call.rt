@@ -7,9 +7,9 @@ ghost use Rattle.wire.specs.Promises.{CallBytesSound};
 use crate::kind::{Kind, Tagged};
 use crate::number::*;
 use crate::refusal::Refusal;
-use bytes::SECTOR_BYTES;
-use bytes::reader::*;
-use bytes::writer::*;
+use octets::SECTOR_BYTES;
+use octets::reader::*;
+use octets::writer::*;
 use std::alloc::{AllocError, Global};
 
 #[derive(Clone, Copy)]

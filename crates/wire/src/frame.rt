@@ -5,8 +5,8 @@ ghost use Rattle.wire.specs.Frames.{frame_bytes, framed, the_frames};
 ghost use Rattle.wire.specs.Promises.{FrameBytesSound};
 
 use crate::number::Customer;
-use bytes::reader::number;
-use bytes::writer::{put_length, put_number};
+use octets::reader::number;
+use octets::writer::{put_length, put_number};
 use std::alloc::{AllocError, Global};
 
 #[derive(Clone, Copy)]

@@ -1,4 +1,4 @@
-use Rattle.bytes.proofs.Numbers.{eight_bytes}
+use Rattle.octets.proofs.Numbers.{eight_bytes}
 use Rattle.journal.specs.Format.{mark, part_bytes}
 use Rattle.journal.proofs.Laid.{five_laid}
 use Rattle.journal.proofs.part.Part.fill.Goals as goal

@@ -1,5 +1,5 @@
 use Rattle.std.proofs.Common.{◌≡◌, ℕ, ◌+◌, List, [], ◌++◌, length, ap, ◌∙◌, append_assoc, arith}
-use Rattle.bytes.specs.Numbers.{bytes_of}
+use Rattle.octets.specs.Numbers.{bytes_of}
 use Rattle.wire.specs.Frames.{frame_bytes}
 use Rattle.wire.proofs.frame.Frame.encode.Goals as goal
 

@@ -1,6 +1,6 @@
 // A message as bytes: its first byte, then numbers of 8 bytes each.
 ghost use Rattle.std.specs.Prelude.{◌≡◌, ◌∷◌, ◌++◌, is_ok, IfOk, if◌then◌else◌};
-ghost use Rattle.bytes.specs.Numbers.{bytes_of, numbers_bytes};
+ghost use Rattle.octets.specs.Numbers.{bytes_of, numbers_bytes};
 
 use std::alloc::{AllocError, Global};
 

@@ -2,8 +2,8 @@
 use Rattle.std.proofs.Common.{◌≡◌, ℕ, zero, suc, ◌+◌, ◌-◌, ◌*◌, ◌^◌, ◌<◌, ◌≤◌, Bool, true, false, ◌&&◌, T, ltb, List, [], ◌∷◌, ◌++◌, length, get_or, take, drop, sym, refl, ap, ◌∙◌, subst, append_assoc, append-nil, lt_of_lt_of_le, mul-le-mul_right, pow-suc, arith, ltb→lt, lt→ltb, length-append, length-drop, take-append-drop, length-take}
 use Rattle.std.proofs.lemmas.List.{take_at, drop_at, drop-drop, drop_all}
 use Rattle.disks.specs.Device.{all_bytes}
-use Rattle.bytes.specs.Numbers.{big_from, big, bytes_of, field, numbers_bytes, small}
-use Rattle.bytes.proofs.Numbers.{length-bytes_of, big-bytes_of, bytes_of-big, first_byte, both, join}
+use Rattle.octets.specs.Numbers.{big_from, big, bytes_of, field, numbers_bytes, small}
+use Rattle.octets.proofs.Numbers.{length-bytes_of, big-bytes_of, bytes_of-big, first_byte, both, join}
 
 pub first_small : (n : ℕ) (ns : List ℕ) → T (small (n ∷ ns)) → (n < 2 ^ 64) × T (small ns)
 unfolding small

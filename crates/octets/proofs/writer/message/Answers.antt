@@ -1,7 +1,7 @@
 use Rattle.std.proofs.Common.{rules}
 use Rattle.std.proofs.lemmas.List.{take_all}
-use Rattle.bytes.proofs.Numbers.{message_more}
-use Rattle.bytes.proofs.writer.message.Goals as goal
+use Rattle.octets.proofs.Numbers.{message_more}
+use Rattle.octets.proofs.writer.message.Goals as goal
 
 pub loop-n-preserved : goal.loop-n-preserved
 loop-n-preserved c = message_more c.args.first c.args.numbers.now c.loop-n.n-index _ _ c.loop-n-test.true c.loop-n.invariant c.in-ok-put-number.ensures

@@ -1,6 +1,6 @@
 // Numbers and sectors off the front of a byte string.
 ghost use Rattle.std.specs.Prelude.{◌≡◌, ◌+◌, ◌<◌, ◌≤◌, length, take, drop, MatchOption, ◌≢◌};
-ghost use Rattle.bytes.specs.Numbers.{big, field};
+ghost use Rattle.octets.specs.Numbers.{big, field};
 
 use crate::SECTOR_BYTES;
 
