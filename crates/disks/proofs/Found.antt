@@ -1,15 +1,11 @@
 -- What is found under a number: if anything, then one of which Q holds. Each change of the list of volumes keeps that, or brings it about.
-use mathlib.Core.Path.{◌≡◌, refl, ap, sym, ◌∙◌, subst}
-use mathlib.Core.Logic.{◌⊎◌, inl, inr}
-use mathlib.Core.Bool.{Bool, true, false, cond, ◌&&◌, ◌||◌, not}
-use mathlib.Core.List.{List, [], ◌∷◌, ◌++◌, map, Memᴰ}
-use Prim.Native.Nat.{ℕ, zero, suc, ◌+◌, ◌<◌, ◌≤◌}
-use native.Mathlib.Omega.{arith}
-use native.Mathlib.Nat.{le_refl}
-use lib.Dec.{eqb, ltb, leb, T, eqb→eq}
-use lib.ListN.{length}
-use Rattle.disks.specs.Device.{Device, shown, written, synced, zeros, all_bytes, AfterCut}
-use Rattle.disks.specs.Disks.{Volume, Picture, State, blank, keep, find, change, Call, Make, Attach, Read, Write, Sync, Picture', Copy, Drop, DropPicture, Reply, No, Yes, Num, Token, Sector, Full, Out, no, is_volume, is_picture, with_volumes, with_disk, in_volume, device_of, makes, attaches, holding, inside, takes_picture, copies, drops_picture, does, cut_to, CutVolumes, no_more, left, is_cut, Cut, cut}
+use mathlib.Core.Path.{◌≡◌, sym, ◌∙◌, subst}
+use mathlib.Core.Bool.{Bool, true, false, cond, ◌||◌, not}
+use mathlib.Core.List.{List, [], ◌∷◌, ◌++◌}
+use Prim.Native.Nat.{ℕ}
+use lib.Dec.{eqb, T, eqb→eq}
+use Rattle.disks.specs.Device.{Device}
+use Rattle.disks.specs.Disks.{Volume, State, keep, find, change, Out, no, is_volume, holding, cut_to, CutVolumes, no_more, left, is_cut}
 use Rattle.disks.proofs.Steps.{on_cond}
 
 abbrev pub Head : {A : Type 0} → (A → Type 0) → List A → Type 0

@@ -1,16 +1,13 @@
 -- Pictures stand. Numbers of pictures are each one's own and below the next; from a state on, what is there was there or is newer. So a
 -- picture with an old number is the old picture.
-use mathlib.Core.Path.{◌≡◌, refl, ap, sym, ◌∙◌, subst}
+use mathlib.Core.Path.{◌≡◌, ap, sym, ◌∙◌}
 use mathlib.Core.Logic.{◌⊎◌, inl, inr}
-use mathlib.Core.Bool.{Bool, true, false, cond, ◌&&◌, ◌||◌, not}
-use mathlib.Core.List.{List, [], ◌∷◌, ◌++◌, map, Memᴰ}
-use Prim.Native.Nat.{ℕ, zero, suc, ◌+◌, ◌<◌, ◌≤◌}
+use mathlib.Core.Bool.{Bool, true, false, cond}
+use mathlib.Core.List.{List, [], ◌∷◌, ◌++◌, Memᴰ}
+use Prim.Native.Nat.{ℕ, ◌+◌, ◌<◌, ◌≤◌}
 use native.Mathlib.Omega.{arith}
 use native.Mathlib.Nat.{le_refl}
-use lib.Dec.{eqb, ltb, leb, T, eqb→eq}
-use lib.ListN.{length}
-use Rattle.disks.specs.Device.{Device, shown, written, synced, zeros, all_bytes, AfterCut}
-use Rattle.disks.specs.Disks.{Volume, Picture, State, blank, keep, find, change, Call, Make, Attach, Read, Write, Sync, Picture', Copy, Drop, DropPicture, Reply, No, Yes, Num, Token, Sector, Full, Out, no, is_volume, is_picture, with_volumes, with_disk, in_volume, device_of, makes, attaches, holding, inside, takes_picture, copies, drops_picture, does, cut_to, CutVolumes, no_more, left, is_cut, Cut, cut}
+use Rattle.disks.specs.Disks.{Picture, State, keep, Cut, cut}
 use Rattle.disks.specs.Promise.{Run, still, onward, was_cut, PicturesStand}
 use Rattle.disks.proofs.Steps.{Step, nothing, made, changed, dropped, taken, thrown, step}
 

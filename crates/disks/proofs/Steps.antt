@@ -1,15 +1,14 @@
 -- What a call leaves, whichever it is: one of six outcomes. Each promise over runs then goes by these.
-use mathlib.Core.Path.{◌≡◌, refl, ap, sym, ◌∙◌, subst}
-use mathlib.Core.Logic.{◌⊎◌, inl, inr}
+use mathlib.Core.Path.{◌≡◌, refl}
 use mathlib.Core.Bool.{Bool, true, false, cond, ◌&&◌, ◌||◌, not}
-use mathlib.Core.List.{List, [], ◌∷◌, ◌++◌, map, Memᴰ}
-use Prim.Native.Nat.{ℕ, zero, suc, ◌+◌, ◌<◌, ◌≤◌}
+use mathlib.Core.List.{List, [], ◌∷◌, ◌++◌}
+use Prim.Native.Nat.{ℕ, ◌+◌, ◌≤◌}
 use native.Mathlib.Omega.{arith}
 use native.Mathlib.Nat.{le_refl}
-use lib.Dec.{eqb, ltb, leb, T, eqb→eq}
+use lib.Dec.{eqb, ltb, leb, T}
 use lib.ListN.{length}
-use Rattle.disks.specs.Device.{Device, shown, written, synced, zeros, all_bytes, AfterCut}
-use Rattle.disks.specs.Disks.{Volume, Picture, State, blank, keep, find, change, Call, Make, Attach, Read, Write, Sync, Picture', Copy, Drop, DropPicture, Reply, No, Yes, Num, Token, Sector, Full, Out, no, is_volume, is_picture, with_volumes, with_disk, in_volume, device_of, makes, attaches, holding, inside, takes_picture, copies, drops_picture, does, cut_to, CutVolumes, no_more, left, is_cut, Cut, cut}
+use Rattle.disks.specs.Device.{all_bytes}
+use Rattle.disks.specs.Disks.{Volume, Picture, State, keep, find, Call, Make, Attach, Read, Write, Sync, Picture', Copy, Drop, DropPicture, Out, no, is_volume, is_picture, with_volumes, in_volume, makes, attaches, holding, copies, drops_picture, does}
 
 pub on_cond : {A : Type 0} (P : A → Type 0) (b : Bool) {x y : A} → (T b → P x) → (T (not b) → P y) → P (cond b x y)
 on_cond P true f g = f tt

@@ -1,16 +1,15 @@
 -- Old tokens do nothing. A volume's number is never given again, and its token only grows; so once a token was given, what is found under
 -- the number has at least that token, and a call under an older one is refused.
-use mathlib.Core.Path.{◌≡◌, refl, ap, sym, ◌∙◌, subst}
+use mathlib.Core.Path.{◌≡◌, refl, ap, sym, subst}
 use mathlib.Core.Logic.{◌⊎◌, inl, inr}
 use mathlib.Core.Bool.{Bool, true, false, cond, ◌&&◌, ◌||◌, not}
-use mathlib.Core.List.{List, [], ◌∷◌, ◌++◌, map, Memᴰ}
-use Prim.Native.Nat.{ℕ, zero, suc, ◌+◌, ◌<◌, ◌≤◌}
+use mathlib.Core.List.{List, [], ◌∷◌}
+use Prim.Native.Nat.{ℕ, ◌+◌, ◌<◌, ◌≤◌}
 use native.Mathlib.Omega.{arith}
-use native.Mathlib.Nat.{le_refl}
-use lib.Dec.{eqb, ltb, leb, T, eqb→eq}
+use lib.Dec.{eqb, leb, T, eqb→eq}
 use lib.ListN.{length}
-use Rattle.disks.specs.Device.{Device, shown, written, synced, zeros, all_bytes, AfterCut}
-use Rattle.disks.specs.Disks.{Volume, Picture, State, blank, keep, find, change, Call, Make, Attach, Read, Write, Sync, Picture', Copy, Drop, DropPicture, Reply, No, Yes, Num, Token, Sector, Full, Out, no, is_volume, is_picture, with_volumes, with_disk, in_volume, device_of, makes, attaches, holding, inside, takes_picture, copies, drops_picture, does, cut_to, CutVolumes, no_more, left, is_cut, Cut, cut}
+use Rattle.disks.specs.Device.{all_bytes}
+use Rattle.disks.specs.Disks.{Volume, State, blank, find, Attach, Reply, No, Yes, Num, Token, Sector, Full, Out, no, in_volume, attaches, holding, does, Cut, cut}
 use Rattle.disks.specs.Promise.{Run, still, onward, was_cut, OldTokensNothing, Refused, OldTokensRefused}
 use Rattle.disks.proofs.Steps.{Step, nothing, made, changed, dropped, taken, thrown, step, on_cond}
 use Rattle.disks.proofs.Found.{Head, at, weaken, head_num, head_change, head_changed, head_append, head_keep, head_cut}

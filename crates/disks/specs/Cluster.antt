@@ -1,8 +1,8 @@
 -- Houses, each with its own device, what is under way between them, and what customers see of all of them together; what it is for
 -- them to be as one place, to answer, to say busy only at nine calls, and to stay within their devices.
 -- Assumes nothing.
-use Rattle.std.specs.Prelude.{◌≡◌, ◌⊎◌, Bool, true, false, cond, ◌&&◌, ◌||◌, not, ℕ, zero, suc, ◌+◌, ◌*◌, ◌<◌, ◌≤◌, eqb, ltb, leb, T, length}
-use mathlib.Core.List.{List, [], ◌∷◌, ◌++◌, map, Memᴰ}
+use Rattle.std.specs.Prelude.{◌≡◌, Bool, true, false, cond, ◌&&◌, ◌||◌, not, ℕ, suc, ◌+◌, ◌<◌, ◌≤◌, eqb, ltb, T, length}
+use mathlib.Core.List.{List, [], ◌∷◌, ◌++◌, Memᴰ}
 use Rattle.disks.specs.Device.{Device, blank_device, Io, run, Ran, Upto, AfterCut, Fair}
 
 -- what can come to a house: a packet, a call under its number, a tick of its clock

@@ -1,8 +1,8 @@
 -- A block device and what a power cut leaves of it; programs that use one, request by request; and what it is for a part of the
 -- code to keep to a judge, which is a description of what it may answer. Volumes are such devices too, so this is said once.
 -- Assumes nothing.
-use Rattle.std.specs.Prelude.{◌≡◌, ◌⊎◌, Bool, true, false, cond, ◌&&◌, ◌||◌, not, ℕ, zero, suc, ◌+◌, ◌*◌, ◌<◌, ◌≤◌, eqb, ltb, leb, T, length}
-use mathlib.Core.List.{List, [], ◌∷◌, ◌++◌, map, Memᴰ}
+use Rattle.std.specs.Prelude.{◌≡◌, ◌⊎◌, Bool, true, cond, ◌&&◌, ℕ, zero, suc, ◌<◌, ◌≤◌, eqb, ltb, T, length}
+use mathlib.Core.List.{List, [], ◌∷◌, Memᴰ}
 
 -- Sectors of 512 bytes. kept: what a sector held when the device last answered a sync; since: what was written to it since then, the latest first.
 pub record Device : Type 0 where

@@ -1,8 +1,8 @@
 -- The meaning of the service: volumes, each a device as the houses' own are, pictures of them, and every call, as if in one place.
 -- Assumes nothing.
-use Rattle.std.specs.Prelude.{◌≡◌, ◌⊎◌, Bool, true, false, cond, ◌&&◌, ◌||◌, not, ℕ, zero, suc, ◌+◌, ◌*◌, ◌<◌, ◌≤◌, eqb, ltb, leb, T, length}
-use mathlib.Core.List.{List, [], ◌∷◌, ◌++◌, map, Memᴰ}
-use Rattle.disks.specs.Device.{Device, blank_device, zeros, shown, written, synced, AfterCut, all_bytes}
+use Rattle.std.specs.Prelude.{Bool, true, false, cond, ◌&&◌, ◌||◌, not, ℕ, zero, suc, ◌+◌, ◌<◌, eqb, ltb, leb, T, length}
+use mathlib.Core.List.{List, [], ◌∷◌, ◌++◌}
+use Rattle.disks.specs.Device.{Device, zeros, shown, written, synced, AfterCut, all_bytes}
 
 -- A volume has a number, given once, a size in sectors, a token, under which alone it may be used, and a device. Token 0 is nobody's.
 pub record Volume : Type 0 where

@@ -1,9 +1,9 @@
 -- A house's code above a part on its device that keeps to a judge: what can happen to such houses, with the part as its judge has it.
 -- Assumes nothing.
-use Rattle.std.specs.Prelude.{◌≡◌, ◌⊎◌, Bool, true, false, cond, ◌&&◌, ◌||◌, not, ℕ, zero, suc, ◌+◌, ◌*◌, ◌<◌, ◌≤◌, eqb, ltb, leb, T, length}
-use mathlib.Core.List.{List, [], ◌∷◌, ◌++◌, map, Memᴰ}
-use Rattle.disks.specs.Device.{Device, Io, answer, Machine, Judge, Keeps, Plan, then', through, Comes, CutShort}
-use Rattle.disks.specs.Cluster.{In, From, Ask, Tick, Out, To, Tell, Seen, called, answered, fell, House, Packet, Asking, put, packets, tells, is_used, settled, away_from, Plain, Waiting, Ready, Linear, AsOne}
+use Rattle.std.specs.Prelude.{◌≡◌, not, ℕ, suc, ◌<◌, ◌≤◌, T}
+use mathlib.Core.List.{List, [], ◌∷◌, ◌++◌, Memᴰ}
+use Rattle.disks.specs.Device.{answer, Machine, Judge, Keeps, Plan, then', through, Comes, CutShort}
+use Rattle.disks.specs.Cluster.{In, From, Ask, Tick, Out, Seen, called, fell, House, Packet, Asking, put, packets, tells, is_used, settled, away_from, Plain, Waiting, Ready, Linear, AsOne}
 
 pub record HouseOn (C R M O Q : Type 0) : Type 1 where
   pub Mem : Type 0

@@ -1,9 +1,9 @@
 -- What is promised of the whole, and of its parts. Each is a type; a proof of the type is the theorem.
 -- Assumes nothing.
-use Rattle.std.specs.Prelude.{◌≡◌, ◌⊎◌, Bool, true, false, cond, ◌&&◌, ◌||◌, not, ℕ, zero, suc, ◌+◌, ◌*◌, ◌/◌, ◌<◌, ◌≤◌, eqb, ltb, leb, T, length}
-use mathlib.Core.List.{List, [], ◌∷◌, ◌++◌, map, Memᴰ}
-use Rattle.disks.specs.Device.{Device, blank_device, zeros, shown, written, synced, AfterCut, Machine, Judge, Keeps}
-use Rattle.disks.specs.Disks.{Volume, Picture, State, blank, some, keep, find, Call, Make, Attach, Read, Write, Sync, Picture', Copy, Drop, DropPicture, Reply, No, Yes, Num, Token, Sector, Out, no, does, Answers, Cut, is_volume, is_picture, weight, core}
+use Rattle.std.specs.Prelude.{◌≡◌, ◌⊎◌, Bool, not, ℕ, zero, suc, ◌*◌, ◌/◌, ◌<◌, T}
+use mathlib.Core.List.{List, [], ◌∷◌, Memᴰ}
+use Rattle.disks.specs.Device.{Device, shown, written, synced, AfterCut}
+use Rattle.disks.specs.Disks.{Volume, Picture, State, blank, find, Call, Attach, Read, Write, Sync, Picture', Drop, Reply, No, Yes, Token, Sector, Out, no, does, Answers, Cut, is_volume, core}
 use Rattle.disks.specs.Cluster.{House, Plain, AsOne, Answers as Answering, BusyAtNine, Within}
 
 -- How much there is room for, in sectors. In the core a quarter of one house's device after 2,048 sectors of it, so that every copy may

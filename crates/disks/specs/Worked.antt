@@ -1,7 +1,7 @@
 -- Worked cases as rows of one table: a call, and what it is to be answered where all before it were made.
 -- Assumes nothing.
 use Rattle.std.specs.Prelude.{◌≡◌, List, [], ◌∷◌, map, ℕ, replicate, take}
-use Rattle.disks.specs.Disks.{Volume, State, blank, find, is_volume, Call, Make, Attach, Read, Write, Sync, Picture', Copy, Drop, DropPicture, Reply, No, Yes, Num, Token, Sector, does}
+use Rattle.disks.specs.Disks.{Volume, State, blank, find, is_volume, Call, Make, Attach, Read, Write, Picture', Copy, Reply, No, Yes, Num, Token, Sector, does}
 
 pub record Row : Type 0 where
   pub call : Call

@@ -1,5 +1,5 @@
 -- Numbers of 8 bytes one behind the other: each is found at its place, and those that were read spell the bytes they were read from.
-use Rattle.std.proofs.Common.{◌≡◌, ℕ, zero, suc, ◌+◌, ◌-◌, ◌*◌, ◌^◌, ◌<◌, ◌≤◌, Bool, true, false, ◌&&◌, T, ltb, List, [], ◌∷◌, ◌++◌, length, get_or, take, drop, sym, refl, ap, ◌∙◌, subst, append_assoc, append-nil, lt_of_lt_of_le, mul-le-mul_right, pow-suc, arith, ltb→lt, lt→ltb, length-append, length-drop, take-append-drop, length-take}
+use Rattle.std.proofs.Common.{◌≡◌, ℕ, zero, suc, ◌+◌, ◌*◌, ◌^◌, ◌<◌, ◌≤◌, T, ltb, List, [], ◌∷◌, ◌++◌, length, get_or, take, drop, sym, refl, ap, ◌∙◌, subst, append_assoc, lt_of_lt_of_le, mul-le-mul_right, pow-suc, arith, ltb→lt, lt→ltb, length-append, length-drop, take-append-drop, length-take}
 use Rattle.std.proofs.lemmas.List.{take_at, drop_at, drop-drop, drop_all}
 use Rattle.disks.specs.Device.{all_bytes}
 use Rattle.octets.specs.Numbers.{big_from, big, bytes_of, field, numbers_bytes, small}

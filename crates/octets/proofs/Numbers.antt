@@ -2,7 +2,7 @@
 use Rattle.std.proofs.Common.{◌≡◌, ℕ, zero, suc, ◌+◌, ◌*◌, ◌/◌, ◌%◌, ◌^◌, ◌<◌, Bool, true, false, ◌&&◌, T, ltb, List, [], ◌∷◌, ◌++◌, length, get_or, take, sym, refl, ap, ◌∙◌, append_assoc, append-nil, add-zero, pow-suc, arith, ltb→lt, length-append}
 use native.Mathlib.Nat.{div-div-eq-div-mul}
 use Rattle.disks.specs.Device.{all_bytes}
-use Rattle.octets.specs.Numbers.{big_from, big, bytes_of, numbers_bytes}
+use Rattle.octets.specs.Numbers.{big_from, bytes_of, numbers_bytes}
 use Rattle.std.proofs.lemmas.List.{take_more, flat_map_more}
 
 pub length-bytes_of : (w n : ℕ) → length (bytes_of w n) ≡ w

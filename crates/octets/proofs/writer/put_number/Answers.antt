@@ -1,4 +1,4 @@
-use Rattle.std.proofs.Common.{sym, rules}
+use Rattle.std.proofs.Common.{rules}
 use Rattle.octets.proofs.Numbers.{eight_bytes}
 use Rattle.octets.proofs.writer.put_number.Goals as goal
 
