@@ -3,13 +3,13 @@ use Rattle.journal.specs.Programs.{get_io}
 use Rattle.device.proofs.Steps.{does}
 use Rattle.device.proofs.get.get.Goals as goal
 
-pub returns-then-not-is-guarded : goal.returns-then-not-is-guarded
+pub returns-then-not-is_guarded : goal.returns-then-not-is_guarded
 unfolding get_io
-returns-then-not-is-guarded g c = search (rules, does)
+returns-then-not-is_guarded g c = search (rules, does)
 
-pub returns-in-err-read : goal.returns-in-err-read
+pub returns-in_err-read : goal.returns-in_err-read
 unfolding get_io
-returns-in-err-read g c = search (rules, does)
+returns-in_err-read g c = search (rules, does)
 
 pub returns : goal.returns
 unfolding get_io

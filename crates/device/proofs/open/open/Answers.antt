@@ -3,13 +3,13 @@ use Rattle.journal.specs.Programs.{open_io}
 use Rattle.device.proofs.Steps.{does}
 use Rattle.device.proofs.open.open.Goals as goal
 
-pub returns-in-err-a : goal.returns-in-err-a
+pub returns-in_err-a : goal.returns-in_err-a
 unfolding open_io
-returns-in-err-a g c = search (rules, does)
+returns-in_err-a g c = search (rules, does)
 
-pub returns-in-err-b : goal.returns-in-err-b
+pub returns-in_err-b : goal.returns-in_err-b
 unfolding open_io
-returns-in-err-b g c = search (rules, does)
+returns-in_err-b g c = search (rules, does)
 
 pub returns : goal.returns
 unfolding open_io

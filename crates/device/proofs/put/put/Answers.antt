@@ -4,17 +4,17 @@ use Rattle.device.proofs.Steps.{does}
 use Rattle.device.proofs.Tells.{leaving_err}
 use Rattle.device.proofs.put.put.Goals as goal
 
-pub returns-then-not-is-allowed : goal.returns-then-not-is-allowed
+pub returns-then-not-is_allowed : goal.returns-then-not-is_allowed
 unfolding put_io
-returns-then-not-is-allowed g c = search (rules, does, leaving_err)
+returns-then-not-is_allowed g c = search (rules, does, leaving_err)
 
-pub returns-then-journal-ge-NUMBERS-END : goal.returns-then-journal-ge-NUMBERS-END
+pub returns-then-journal-ge-NUMBERS_END : goal.returns-then-journal-ge-NUMBERS_END
 unfolding put_io
-returns-then-journal-ge-NUMBERS-END g c = search (rules, does, leaving_err)
+returns-then-journal-ge-NUMBERS_END g c = search (rules, does, leaving_err)
 
-pub returns-in-err-transact : goal.returns-in-err-transact
+pub returns-in_err-transact : goal.returns-in_err-transact
 unfolding put_io
-returns-in-err-transact g c = search (rules, does, leaving_err)
+returns-in_err-transact g c = search (rules, does, leaving_err)
 
 pub returns : goal.returns
 unfolding put_io

@@ -6,8 +6,8 @@ use Rattle.device.proofs.put.write_in_place.Goals as goal
 pub loop-write-init : goal.loop-write-init
 loop-write-init g c = λ r t h. h
 
-pub returns-in-err-write : goal.returns-in-err-write
-returns-in-err-write g c = c.loop-write.invariant _ _ (search (rules, does, writing))
+pub returns-in_err-write : goal.returns-in_err-write
+returns-in_err-write g c = c.loop-write.invariant _ _ (search (rules, does, writing))
 
 pub loop-write-preserved : goal.loop-write-preserved
 loop-write-preserved g c = λ r t h. c.loop-write.invariant r t (search (rules, does, writing))

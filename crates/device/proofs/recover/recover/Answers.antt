@@ -7,18 +7,18 @@ pub returns-then-not-b : goal.returns-then-not-b
 unfolding recover_io
 returns-then-not-b g c = search (rules, does)
 
-pub returns-in-err-redo : goal.returns-in-err-redo
+pub returns-in_err-redo : goal.returns-in_err-redo
 unfolding recover_io
-returns-in-err-redo g c = search (rules, does)
+returns-in_err-redo g c = search (rules, does)
 
-pub returns-in-err-redo-2 : goal.returns-in-err-redo-2
+pub returns-in_err-redo-2 : goal.returns-in_err-redo-2
 unfolding recover_io
-returns-in-err-redo-2 g c = search (rules, does)
+returns-in_err-redo-2 g c = search (rules, does)
 
-pub returns-in-ok-redo : goal.returns-in-ok-redo
+pub returns-in_ok-redo : goal.returns-in_ok-redo
 unfolding recover_io
-returns-in-ok-redo g c = search (rules, does)
+returns-in_ok-redo g c = search (rules, does)
 
-pub returns-in-ok-redo-2 : goal.returns-in-ok-redo-2
+pub returns-in_ok-redo-2 : goal.returns-in_ok-redo-2
 unfolding recover_io
-returns-in-ok-redo-2 g c = search (rules, does)
+returns-in_ok-redo-2 g c = search (rules, does)

@@ -5,13 +5,13 @@ use Rattle.lines.proofs.hex.encode.Goals as goal
 
 pub loop-b-preserved : goal.loop-b-preserved
 loop-b-preserved c =
-    hex_more c.args.bytes.now c.loop-b.b-index c.digit.result c.digit-in-loop-b.result _ _ _ c.loop-b-test.true c.digit.ensures c.digit-in-loop-b.ensures c.loop-b.invariant c.in-ok-push.ensures.items c.in-ok-push-2.ensures.items
+    hex_more c.args.bytes.now c.loop-b.b-index c.digit.result c.digit-in-loop-b.result _ _ _ c.loop-b-test.true c.digit.ensures c.digit-in-loop-b.ensures c.loop-b.invariant c.in_ok-push.ensures.items c.in_ok-push-2.ensures.items
 
 pub returns : goal.returns
 returns c = search (rules, take_all, hex_round_trip)
 
-pub returns-in-err-push : goal.returns-in-err-push
-returns-in-err-push c = search (rules, hex_round_trip)
+pub returns-in_err-push : goal.returns-in_err-push
+returns-in_err-push c = search (rules, hex_round_trip)
 
-pub returns-in-err-push-2 : goal.returns-in-err-push-2
-returns-in-err-push-2 c = search (rules, hex_round_trip)
+pub returns-in_err-push-2 : goal.returns-in_err-push-2
+returns-in_err-push-2 c = search (rules, hex_round_trip)

@@ -3,4 +3,4 @@ use Rattle.memory_disk.proofs.Ghosts.{noted_shows}
 use Rattle.memory_disk.proofs.MemoryDisk.note.Goals as goal
 
 pub invariant-of-self-2 : goal.invariant-of-self-2
-invariant-of-self-2 c = search (rules, noted_shows, c.in-ok-write.ensures.wrote)
+invariant-of-self-2 c = search (rules, noted_shows, c.in_ok-write.ensures.wrote)

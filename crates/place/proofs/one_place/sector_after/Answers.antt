@@ -18,7 +18,7 @@ pub returns-in-Some : goal.returns-in-Some
 returns-in-Some c = is_told c.args.log.now c.args.volume.0 c.args.sector.0 c.loop-left.left (omega arith) c.loop-left.invariant.0 nothing c.loop-left.invariant.1 c.in-Some.content c.in-Some.ensures
 
 pub loop-left-preserved : goal.loop-left-preserved
-loop-left-preserved c = (omega (arith, c.loop-left.invariant.0), not_told c.args.log.now c.args.volume.0 c.args.sector.0 c.loop-left.left (omega arith) c.loop-left.invariant.0 nothing c.loop-left.invariant.1 c.in-default.ensures)
+loop-left-preserved c = (omega (arith, c.loop-left.invariant.0), not_told c.args.log.now c.args.volume.0 c.args.sector.0 c.loop-left.left (omega arith) c.loop-left.invariant.0 nothing c.loop-left.invariant.1 c.in_default.ensures)
 
 pub returns : goal.returns
 unfolding zeros

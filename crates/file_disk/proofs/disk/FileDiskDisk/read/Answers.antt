@@ -2,8 +2,8 @@ use Rattle.std.proofs.Common.{rules}
 use Rattle.device.proofs.Steps.{disks}
 use Rattle.file_disk.proofs.disk.FileDiskDisk.read.Goals as goal
 
-pub returns-in-default : goal.returns-in-default
-returns-in-default g c = search (rules, disks)
+pub returns-in_default : goal.returns-in_default
+returns-in_default g c = search (rules, disks)
 
 pub returns-in-Ok : goal.returns-in-Ok
 returns-in-Ok g c = search (rules, disks)

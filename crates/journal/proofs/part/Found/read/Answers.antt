@@ -8,8 +8,8 @@ returns-then-mark-eq0 c = search (rules, found_blank)
 pub returns-then-mark-ne-MARK : goal.returns-then-mark-ne-MARK
 returns-then-mark-ne-MARK c = search (rules, found_unmarked)
 
-pub returns-then-is-sound : goal.returns-then-is-sound
-returns-then-is-sound c = search (rules, found_part)
+pub returns-then-is_sound : goal.returns-then-is_sound
+returns-then-is_sound c = search (rules, found_part)
 
-pub returns-else-is-sound : goal.returns-else-is-sound
-returns-else-is-sound c = search (rules, found_unsound)
+pub returns-else-is_sound : goal.returns-else-is_sound
+returns-else-is_sound c = search (rules, found_unsound)

@@ -4,7 +4,7 @@ use Rattle.memory_disk.proofs.sectors.Sectors.settle.Goals as goal
 
 pub returns-in-Some : goal.returns-in-Some
 returns-in-Some c =
-    let t = c.get-mut.follows.0 in
+    let t = c.get_mut.follows.0 in
     let k = c.args.at in
     let m = c.args.self.now.written in
     let o = c.args.self.now.lawful in
@@ -12,11 +12,11 @@ returns-in-Some c =
     let s = ap is_some c.in-Some.is in
     record { kept = settles m (t.0.0 _) k _ o ((t.1 _).2 s k refl) _ f (search rules); shown = shows m (t.0.0 _) k _ o ((t.1 _).2 s k refl) _ f (search rules) }
 
-pub returns-in-default : goal.returns-in-default
-returns-in-default c =
-    let h = c.get-mut.follows.holds-at-none in
+pub returns-in_default : goal.returns-in_default
+returns-in_default c =
+    let h = c.get_mut.follows.holds-at-none in
     let k = c.args.at in
     let m = c.args.self.now.written in
     let o = c.args.self.now.lawful in
-    let f = found m k _ o (c.in-default.ensures.finds k refl) in
+    let f = found m k _ o (c.in_default.ensures.finds k refl) in
     search (rules, settled_already)

@@ -7,6 +7,6 @@ pub invariant-of-self : goal.invariant-of-self
 invariant-of-self c =
     let v = c.args.self.now in
     let p = c.in-Some.ensures in
-    let weighed = counted-set v.weight c.as-slice.ensures.value p v.counted (with_token (c.in-Some.head.token.0 + 1) c.in-Some.head) in
-    let least = found_weighs v.weight c.as-slice.ensures.value p v.counted in
+    let weighed = counted-set v.weight c.as_slice.ensures.value p v.counted (with_token (c.in-Some.head.token.0 + 1) c.in-Some.head) in
+    let least = found_weighs v.weight c.as_slice.ensures.value p v.counted in
     (v.reserved, (omega (arith, weighed, least), (v.within, (v.limited, tt))))

@@ -8,4 +8,4 @@ pub invariant-of-self : goal.invariant-of-self
 invariant-of-self c =
     let v = c.args.self.now in
     let weighed = weighs_push (vec_items v.heads) (new_head v.next c.args.size.0) in
-    (omega (arith, v.reserved, c.push-reserved.ensures.capacity), (omega (arith, v.counted, weighed, ap weighs c.push-reserved.ensures.items), (omega arith, (v.limited, tt))))
+    (omega (arith, v.reserved, c.push_reserved.ensures.capacity), (omega (arith, v.counted, weighed, ap weighs c.push_reserved.ensures.items), (omega arith, (v.limited, tt))))

@@ -10,5 +10,5 @@ in_three n z body ws xs ys zs e f g h k =
 
 pub returns : goal.returns
 returns c =
-    in_three c.args.self.now.customer.0 c.in-Some.length c.args.self.now.body.now _ _ _ _ (omega (arith, c.in-Ok.ensures, c.in-Some.ensures)) c.new-out.ensures.items c.in-ok-put-length.ensures
-    c.in-ok-put-number.ensures c.in-ok-extend-from-slice.ensures.items
+    in_three c.args.self.now.customer.0 c.in-Some.length c.args.self.now.body.now _ _ _ _ (omega (arith, c.in-Ok.ensures, c.in-Some.ensures)) c.new-out.ensures.items c.in_ok-put_length.ensures
+    c.in_ok-put_number.ensures c.in_ok-extend_from_slice.ensures.items
