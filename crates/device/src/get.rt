@@ -9,7 +9,7 @@ use journal::state::{Got, Journal, Refused, is_guarded};
 
 // The sector as it was last put.
 pub fn get<D: Disk>(journal: &Journal, disk: &mut D, at: Place) -> Result<Got, Fault>
-    ensures { Does did (get_io journal.now at) disk.old result disk.new }
+    ensures { Does D.did (get_io journal.now at) disk.old result disk.new }
 {
     if !is_guarded(journal.size, at) {
         return Ok(Got::Refused(Refused::OutOfRange));

@@ -11,7 +11,7 @@ use journal::{Place, SLOT_SECTORS};
 
 // Reads a slot, first sector to last.
 fn scan<D: Disk>(disk: &mut D, size: u64, slot: Slot) -> Result<Scan, Fault>
-    ensures { Does did (scan_io size slot) disk.old result disk.new }
+    ensures { Does D.did (scan_io size slot) disk.old result disk.new }
 {
     let at = slot.first_sector();
     let mut sector = BLANK_SECTOR;
@@ -25,7 +25,7 @@ fn scan<D: Disk>(disk: &mut D, size: u64, slot: Slot) -> Result<Scan, Fault>
 
 // The journal of a disk with so many sectors, once everything that was put stands in its place.
 pub fn open<D: Disk>(disk: &mut D, size: u64) -> Result<Opened, Fault>
-    ensures { Does did (open_io size) disk.old result disk.new }
+    ensures { Does D.did (open_io size) disk.old result disk.new }
 {
     let a = scan(disk, size, Slot::First)?;
     let b = scan(disk, size, Slot::Second)?;

@@ -13,7 +13,7 @@ use journal::{NUMBERS_END, Place};
 // Writes a record of these writes into the slot that begins there, two sectors for each write.
 fn write_record<D: Disk>(disk: &mut D, at: u64, number: u64, writes: &[Write]) -> Result<(), Fault>
     requires { at + 2 * length writes.now < 2 ^ 64 }
-    ensures { Does did (write_all_io (record_of at number writes.now)) disk.old result disk.new }
+    ensures { Does D.did (write_all_io (record_of at number writes.now)) disk.old result disk.new }
 {
     let length = 2 * writes.len() as u64;
     let mut sector = BLANK_SECTOR;
@@ -30,7 +30,7 @@ fn write_record<D: Disk>(disk: &mut D, at: u64, number: u64, writes: &[Write]) -
 
 // Writes the sectors of a transaction to where they belong.
 fn write_in_place<D: Disk>(disk: &mut D, writes: &[Write]) -> Result<(), Fault>
-    ensures { Does did (write_all_io writes.now) disk.old result disk.new }
+    ensures { Does D.did (write_all_io writes.now) disk.old result disk.new }
 {
     for write in writes {
         disk.write(write.target, &write.bytes)?;
@@ -41,7 +41,7 @@ fn write_in_place<D: Disk>(disk: &mut D, writes: &[Write]) -> Result<(), Fault>
 // The record, then the sync: from there on the record is whole, and opening does it again. Only then the sectors themselves.
 fn transact<D: Disk>(journal: &Journal, disk: &mut D, writes: &[Write]) -> Result<(), Fault>
     requires { length writes.now ≤ 240 }
-    ensures { Does did (transact_io journal.now writes.now) disk.old result disk.new }
+    ensures { Does D.did (transact_io journal.now writes.now) disk.old result disk.new }
 {
     write_record(disk, journal.slot.first_sector(), journal.next, writes)?;
     disk.sync()?;
@@ -50,7 +50,7 @@ fn transact<D: Disk>(journal: &Journal, disk: &mut D, writes: &[Write]) -> Resul
 
 // Writes these sectors together: whenever the power fails, opening finds all of them written or none.
 pub fn put<D: Disk>(journal: &mut Journal, disk: &mut D, writes: &[Write]) -> Result<Outcome, Fault>
-    ensures done { Does did (put_io journal.old writes.now) disk.old (leaving result journal.new) disk.new }
+    ensures done { Does D.did (put_io journal.old writes.now) disk.old (leaving result journal.new) disk.new }
     ensures kept { is_err result ≡ true → journal.new ≡ journal.old }
 {
     if !is_allowed(journal.size, writes) {

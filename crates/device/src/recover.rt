@@ -13,7 +13,7 @@ use journal::state::{Journal, Opened, Slot};
 // Does the first so many writes again of the record in the slot that begins there.
 fn replay<D: Disk>(disk: &mut D, at: u64, count: u64) -> Result<(), Fault>
     requires { at + 2 * count < 2 ^ 64 }
-    ensures { Does did (replay_from at 0 count) disk.old result disk.new }
+    ensures { Does D.did (replay_from at 0 count) disk.old result disk.new }
 {
     let mut first = BLANK_SECTOR;
     let mut second = BLANK_SECTOR;
@@ -29,7 +29,7 @@ fn replay<D: Disk>(disk: &mut D, at: u64, count: u64) -> Result<(), Fault>
 
 // Does both records again; a is what the older one's slot was found to hold.
 fn redo<D: Disk>(disk: &mut D, older: Slot, a: Scan, b: Scan) -> Result<(), Fault>
-    ensures { Does did (redo_io older a b) disk.old result disk.new }
+    ensures { Does D.did (redo_io older a b) disk.old result disk.new }
 {
     replay(disk, older.first_sector(), a.redo_count())?;
     replay(disk, older.opposite().first_sector(), b.redo_count())?;
@@ -38,7 +38,7 @@ fn redo<D: Disk>(disk: &mut D, older: Slot, a: Scan, b: Scan) -> Result<(), Faul
 
 // Brings the sectors up to what was put, a and b being what the two slots were found to hold.
 pub(crate) fn recover<D: Disk>(disk: &mut D, size: u64, a: Scan, b: Scan) -> Result<Opened, Fault>
-    ensures { Does did (recover_io size a b) disk.old result disk.new }
+    ensures { Does D.did (recover_io size a b) disk.old result disk.new }
 {
     if !(a.ours && b.ours) {
         return Ok(Opened::Foreign);

@@ -2,5 +2,5 @@ use Rattle.std.proofs.Common.{rules}
 use Rattle.memory_disk.proofs.Ghosts.{noted_shows}
 use Rattle.memory_disk.proofs.MemoryDisk.note.Goals as goal
 
-pub invariant-of-self-2 : goal.invariant-of-self-2
-invariant-of-self-2 c = search (rules, noted_shows, c.in_ok-write.ensures.wrote)
+pub invariant_of-self-2 : goal.invariant_of-self-2
+invariant_of-self-2 c = search (rules, noted_shows, c.in_ok-write.ensures.wrote)

@@ -7,8 +7,8 @@ use Rattle.memory_disk.proofs.disk.MemoryDiskDisk.sync.Goals as goal
 pub returns-then-not-counts : goal.returns-then-not-counts
 returns-then-not-counts c = search (rules, disks, broke-after)
 
-pub invariant-of-self : goal.invariant-of-self
-invariant-of-self c = search (rules, settled-shows)
+pub invariant_of-self : goal.invariant_of-self
+invariant_of-self c = search (rules, settled-shows)
 
 pub returns : goal.returns
 returns c = search (rules, disks, it_settles, c.if-not-counts.ensures)

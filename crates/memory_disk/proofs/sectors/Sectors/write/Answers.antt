@@ -6,8 +6,8 @@ use Rattle.memory_disk.proofs.Puts.{Orders, found, keeps, put_shown, blank-zeros
 use Rattle.memory_disk.proofs.sectors.Sectors.write.Goals as goal
 use Rattle.std.specs.Ordering.{nat_cmp}
 
-pub invariant-of-self-in-None : goal.invariant-of-self-in-None
-invariant-of-self-in-None c =
+pub invariant_of-self-in-None : goal.invariant_of-self-in-None
+invariant_of-self-in-None c =
     let h = c.get_mut.follows.holds-at-none in
     let o = subst (λ (m : Table). IsValidBTreeMap nat_cmp m) (sym h) c.args.self.now.lawful in
     (still_lawful c.get_mut.follows.lender-at-none c.insert.new.self c.args.at c.in_ok-sector.sector _ o c.insert.ensures.inserted, tt)

@@ -3,10 +3,10 @@ use Rattle.volumes.specs.Service.{with_token}
 use Rattle.volumes.proofs.Weighing.{counted-set, found_weighs}
 use Rattle.volumes.proofs.volumes.Volumes.attach.Goals as goal
 
-pub invariant-of-self : goal.invariant-of-self
-invariant-of-self c =
+pub invariant_of-self : goal.invariant_of-self
+invariant_of-self c =
     let v = c.args.self.now in
     let p = c.in-Some.ensures in
     let weighed = counted-set v.weight c.as_slice.ensures.value p v.counted (with_token (c.in-Some.head.token.0 + 1) c.in-Some.head) in
     let least = found_weighs v.weight c.as_slice.ensures.value p v.counted in
-    (v.reserved, (omega (arith, weighed, least), (v.within, (v.limited, tt))))
+    record { reserved = v.reserved; counted = omega (arith, weighed, least); within = v.within; limited = v.limited }

@@ -3,14 +3,19 @@ use Rattle.volumes.specs.Weights.{weighs}
 use Rattle.volumes.proofs.Weighing.{counted_removed, found_weighs}
 use Rattle.volumes.proofs.volumes.Volumes.drop_volume.Goals as goal
 
-pub overflow-add-self : goal.overflow-add-self
-overflow-add-self c = omega (arith, found_weighs c.args.self.now.weight c.as_slice.ensures.value c.in-Ok.ensures.first c.args.self.now.counted)
+pub overflow_add-self : goal.overflow_add-self
+overflow_add-self c = omega (arith, found_weighs c.args.self.now.weight c.as_slice.ensures.value c.in-Ok.ensures.first c.args.self.now.counted)
 
-pub overflow-sub-self : goal.overflow-sub-self
-overflow-sub-self c = omega (arith, found_weighs c.args.self.now.weight c.as_slice.ensures.value c.in-Ok.ensures.first c.args.self.now.counted)
+pub overflow_sub-self : goal.overflow_sub-self
+overflow_sub-self c = omega (arith, found_weighs c.args.self.now.weight c.as_slice.ensures.value c.in-Ok.ensures.first c.args.self.now.counted)
 
-pub invariant-of-self : goal.invariant-of-self
-invariant-of-self c =
+pub invariant_of-self : goal.invariant_of-self
+invariant_of-self c =
     let v = c.args.self.now in
     let weighed = counted_removed v.weight c.as_slice.ensures.value c.in-Ok.ensures.first v.counted in
-    (omega (arith, v.reserved, c.remove.ensures.capacity), (omega (arith, weighed, ap weighs c.remove.ensures.items), (omega (arith, v.within), (v.limited, tt))))
+    record {
+      reserved = omega (arith, v.reserved, c.remove.ensures.capacity);
+      counted = omega (arith, weighed, ap weighs c.remove.ensures.items);
+      within = omega (arith, v.within);
+      limited = v.limited;
+    }
