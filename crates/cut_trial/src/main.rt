@@ -75,7 +75,7 @@ impl Trial {
             }
             match open(&mut self.disk, SIZE) {
                 Ok(Opened::Ready(journal)) => return Ok(journal),
-                Ok(Opened::Foreign) => return Err(REFUSED.into()),
+                Ok(Opened::Foreign) => return Err(anyhow!("{REFUSED}")),
                 Err(_) => {
                     self.counts.cut_opening = more(self.counts.cut_opening);
                     self.fail();
@@ -104,7 +104,7 @@ impl Trial {
                 self.model.put(cut);
                 Ok(())
             }
-            Ok(false) => Err(WRONG.into()),
+            Ok(false) => Err(anyhow!("{WRONG}")),
             Err(_) => Err(anyhow!("a read failed")),
         }
     }
@@ -123,7 +123,7 @@ impl Trial {
                     self.counts.done = more(self.counts.done);
                     self.model.put(writes.as_slice());
                 }
-                Ok(Outcome::Refused(_)) => return Err(REFUSED.into()),
+                Ok(Outcome::Refused(_)) => return Err(anyhow!("{REFUSED}")),
                 Err(_) => {
                     self.counts.cut_putting = more(self.counts.cut_putting);
                     return Ok(writes);
@@ -139,10 +139,10 @@ fn arguments(rt: &HostRuntime) -> anyhow::Result<(u64, u64)> {
     let mut words = env::args(rt)?;
     let _program = words.next();
     let (Some(seed), Some(cuts)) = (words.next(), words.next()) else {
-        return Err(USAGE.into());
+        return Err(anyhow!("{USAGE}"));
     };
     let (Ok(seed), Ok(cuts)) = (seed.parse::<u64>(), cuts.parse::<u64>()) else {
-        return Err(USAGE.into());
+        return Err(anyhow!("{USAGE}"));
     };
     Ok((seed, cuts))
 }

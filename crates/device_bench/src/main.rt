@@ -23,13 +23,13 @@ fn arguments(rt: &HostRuntime) -> anyhow::Result<(u8, u64)> {
     let mut words = env::args(rt)?;
     let _program = words.next();
     let (Some(sectors), Some(times)) = (words.next(), words.next()) else {
-        return Err(USAGE.into());
+        return Err(anyhow!("{USAGE}"));
     };
     let (Ok(sectors), Ok(times)) = (sectors.parse::<u8>(), times.parse::<u64>()) else {
-        return Err(USAGE.into());
+        return Err(anyhow!("{USAGE}"));
     };
     if usize::from(sectors) > MOST_WRITES {
-        return Err(USAGE.into());
+        return Err(anyhow!("{USAGE}"));
     }
     Ok((sectors, times))
 }
@@ -38,7 +38,7 @@ fn arguments(rt: &HostRuntime) -> anyhow::Result<(u8, u64)> {
 fn bare(disk: &mut FileDisk<File>, times: u64) -> anyhow::Result<()> {
     for _ in 0..times {
         let (Ok(()), Ok(())) = (disk.write(Place(GUARDED), &BLANK_SECTOR), disk.sync()) else {
-            return Err(FAILED.into());
+            return Err(anyhow!("{FAILED}"));
         };
     }
     Ok(())
@@ -47,12 +47,12 @@ fn bare(disk: &mut FileDisk<File>, times: u64) -> anyhow::Result<()> {
 // Transactions of these writes, so many times.
 fn transactions(disk: &mut FileDisk<File>, writes: &[Write], times: u64) -> anyhow::Result<()> {
     let Ok(Opened::Ready(journal)) = open(disk, SIZE) else {
-        return Err(FAILED.into());
+        return Err(anyhow!("{FAILED}"));
     };
     let mut journal = journal;
     for _ in 0..times {
         let Ok(Outcome::Done) = put(&mut journal, disk, writes) else {
-            return Err(FAILED.into());
+            return Err(anyhow!("{FAILED}"));
         };
     }
     Ok(())

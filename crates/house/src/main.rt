@@ -55,20 +55,20 @@ fn arguments(rt: &HostRuntime) -> anyhow::Result<Place> {
     let mut words = env::args(rt)?;
     let _program = words.next();
     let Some(me) = words.next() else {
-        return Err(USAGE.into());
+        return Err(anyhow!("{USAGE}"));
     };
     let Some(houses) = words.next() else {
-        return Err(USAGE.into());
+        return Err(anyhow!("{USAGE}"));
     };
     if words.next().is_some() {
-        return Err(USAGE.into());
+        return Err(anyhow!("{USAGE}"));
     }
     let (Ok(me), Ok(houses)) = (me.parse::<u8>(), houses.parse::<u8>()) else {
-        return Err(USAGE.into());
+        return Err(anyhow!("{USAGE}"));
     };
     match Place::new(me, houses) {
         Some(place) => Ok(place),
-        None => Err(USAGE.into()),
+        None => Err(anyhow!("{USAGE}")),
     }
 }
 
