@@ -1,7 +1,4 @@
-pub mod Compose
-pub mod Houses
 pub mod Inside
-pub mod Group
 pub mod Ways
 pub mod Along
 pub mod Many
@@ -9,6 +6,4 @@ pub mod Sets
 pub mod Past
 pub mod Pure
 pub mod Simulation
-pub mod Transfer
-pub mod TransferAnswers
-pub mod Held
+pub mod SimulationFor

@@ -27,22 +27,8 @@ abbrev pub ManyAtOnce : Type 1
 ManyAtOnce =
     (O R : Type 0) (p : Plain O R) (x : Exec p) (es : List (Seen O R)) (ds ws : List (Waiting O)) (s : p.State) (rs : List (Ready R)) (f c : ℕ) → Linear p es s (ds ++ ws) rs f c → Linear p es (state_after p x ds s) ws (ready_after p x ds s rs) f c
 
-pub many_at_once : ManyAtOnce
-many_at_once O R p x es [] ws s rs f c l = l
-many_at_once O R p x es (d ∷ ds) ws s rs f c l = many_at_once O R p x es ds ws (x.state d.call s) _ f c (is_done [] (ds ++ ws) d.house d.id d.call l (x.allowed d.call s))
-
--- where an element stands
-pub split : {A : Type 0} {x : A} {xs : List A} → Memᴰ x xs → (before : List A) × (behind : List A) × (xs ≡ before ++ x ∷ behind)
-split (Memᴰ.head {xs = xs} e) = ([], xs, ap (λ y. y ∷ xs) (sym e))
-split (Memᴰ.tail {x = y} m) = let s = split m in (y ∷ s.0, s.1, ap (λ zs. y ∷ zs) s.2)
-
 -- ANY THAT WAITS may be done, wherever it stands.
 abbrev pub AnyWaiting : Type 1
 AnyWaiting =
     (O R : Type 0) (p : Plain O R) (es : List (Seen O R)) (w : Waiting O) (ws : List (Waiting O)) (s t : p.State) (r : R) (rs : List (Ready R)) (f c : ℕ) → Linear p es s ws rs f c → Memᴰ w ws → p.Answers w.call s r t →
     (before : List (Waiting O)) × (behind : List (Waiting O)) × (ws ≡ before ++ w ∷ behind) × Linear p es t (before ++ behind) (record { house = w.house; id = w.id; reply = r } ∷ rs) f c
-
-pub any_waiting : AnyWaiting
-any_waiting O R p es w ws s t r rs f c l m a =
-    let x = split m in
-    (x.0, x.1, x.2, is_done x.0 x.1 w.house w.id w.call (subst (λ vs. Linear p es s vs rs f c) x.2 l) a)

@@ -1,7 +1,7 @@
 -- Calls on a journal that is on: what each answers and leaves, and what is left where it is cut.
 use Rattle.std.proofs.Common.{◌≡◌, ℕ, zero, suc, ◌+◌, ◌*◌, ◌<◌, ◌≤◌, Bool, true, false, cond, ◌&&◌, T, eqb, ltb, leb, ◌≢◌, ◌⊎◌, List, [], ◌∷◌, ◌++◌, length, sym, refl, ap, ◌∙◌, subst, inl, inr, arith, ltb-false, ltb-true, leb-true}
 use Rattle.disks.specs.Device.{Device, Io, answer, read, write, sync, run, Ran, Upto, here, reads, syncs, shown, synced, then', AfterCut}
-use Rattle.compose.specs.Compose.{run_then, upto_then, upto_map}
+use Rattle.compose.proofs.Compose.{run_then, upto_then, upto_map}
 use Rattle.journal.specs.Programs.{base, in_area, all_in_area, apart, allowed, write_all_io, record_of, transact_io, put_io, Put', get_io, after_put}
 use Rattle.recovery.specs.Machines.{last, whole_sectors}
 use Rattle.journal.specs.declared.Place.{Place}

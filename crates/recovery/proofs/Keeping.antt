@@ -3,7 +3,7 @@
 use Rattle.std.proofs.Common.{◌≡◌, ℕ, zero, suc, ◌+◌, ◌*◌, ◌<◌, ◌≤◌, Bool, true, false, cond, ◌&&◌, T, eqb, ltb, leb, ◌≢◌, ◌⊎◌, List, [], ◌∷◌, ◌++◌, length, sym, refl, ap, ◌∙◌, subst, inl, inr, add-one, arith, ltb-false, ltb-true}
 use Rattle.disks.specs.Device
 use Rattle.disks.specs.Device.{Device, blank_device, zeros, Io, answer, run, Ran, Upto, here, shown, latest, AfterCut, Event, called, cut_in, cut_between, cut_opening, World, off, on, Trace, begin, opened, opening_cut, answered, call_cut, between_cut, Allowed, at_start, was_lost, was_done, came_between, came_opening, all_bytes, then'}
-use Rattle.compose.specs.Compose.{run_then, upto_map}
+use Rattle.compose.proofs.Compose.{run_then, upto_map}
 use Rattle.journal.specs.Format.{found}
 use Rattle.journal.specs.Scans.{scan_found, scanned}
 use Rattle.journal.specs.Programs.{in_area, allowed, open_io, get_io, put_io, Put', after_put}

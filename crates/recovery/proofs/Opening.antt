@@ -3,7 +3,7 @@
 use Rattle.std.proofs.Common.{◌≡◌, ℕ, zero, suc, ◌+◌, ◌*◌, ◌<◌, ◌≤◌, Bool, true, false, cond, ◌&&◌, ◌||◌, T, eqb, ltb, leb, ◌≢◌, ◌⊎◌, List, [], ◌∷◌, ◌++◌, length, sym, refl, ap, ◌∙◌, subst, inl, inr, arith, ltb-false, ltb-true, lt-ltb, eqb-true}
 use borrow.Author.Tests.{eqb-false}
 use Rattle.disks.specs.Device.{Device, Io, answer, run, Ran, Upto, here, shown, latest, synced, then', AfterCut}
-use Rattle.compose.specs.Compose.{run_then, upto_then, upto_map}
+use Rattle.compose.proofs.Compose.{run_then, upto_then, upto_map}
 use Rattle.journal.specs.Scans.{scan_start, scanned, higher, redo_number}
 use Rattle.journal.specs.Programs.{base, other, in_area, named, write_all_io, scan_io, redo_io, recover_io, open_io, ready, above}
 use Rattle.recovery.specs.Machines.{last}

@@ -2,7 +2,7 @@
 use Rattle.std.proofs.Common.{◌≡◌, ℕ, zero, suc, ◌+◌, ◌*◌, ◌/◌, ◌<◌, ◌≤◌, Bool, true, false, cond, ◌&&◌, T, eqb, ltb, leb, ◌≢◌, ◌⊎◌, List, [], ◌∷◌, ◌++◌, length, sym, refl, ap, ◌∙◌, subst, inl, inr, add-zero, zero-add, add-one, arith, le→leb, lt→ltb, ne_eqb, eqb-true, le-leb, leb-true}
 use borrow.Author.Tests.{eqb-false}
 use Rattle.disks.specs.Device.{Device, Io, answer, read, write, sync, run, Ran, Upto, here, reads, writes, syncs, shown, written, synced, then'}
-use Rattle.compose.specs.Compose.{run_then, upto_then}
+use Rattle.compose.proofs.Compose.{run_then, upto_then}
 use Rattle.journal.specs.Format.{found, part_of, half_of, slot_sectors}
 use Rattle.journal.specs.Scans.{scan_start, scan_next, scanned, redo_number, redo_count, write_at, writes_from}
 use Rattle.journal.specs.Programs.{base, other, write_all_io, named, all_in_area, scan_from, scan_io, replay_from, redo_io}

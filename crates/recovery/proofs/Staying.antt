@@ -2,8 +2,8 @@
 use Rattle.std.proofs.Common.{◌≡◌, ℕ, zero, suc, ◌+◌, ◌*◌, ◌<◌, ◌≤◌, Bool, true, false, cond, ◌&&◌, T, eqb, ltb, leb, ◌≢◌, ◌⊎◌, List, [], ◌∷◌, ◌++◌, length, take, drop, sym, refl, ap, ◌∙◌, subst, inl, inr, arith, ltb→lt, length-append, length-drop, length-take, ltb-true, eqb-true, leb-true}
 use Rattle.disks.specs.Device
 use Rattle.disks.specs.Device.{Device, Io, answer, read, write, sync, run, Ran, Fair, shown, written, synced, then', Event, World, off, on, Trace, all_bytes}
-use Rattle.compose.specs.Inside.{fair_then}
-use Rattle.compose.specs.Compose.{run_then}
+use Rattle.compose.proofs.Inside.{fair_then}
+use Rattle.compose.proofs.Compose.{run_then}
 use Rattle.octets.proofs.Fields.{bytes_take, bytes_drop}
 use Rattle.journal.specs.Format.{part_of, half_of}
 use Rattle.journal.specs.Scans.{scan_start, scan_next, scanned, redo_count, write_at, writes_from}

@@ -10,7 +10,7 @@ use Rattle.disks.specs.Cluster.{In, From, Ask, Tick, Out, Seen, Packet, Asking, 
 use Rattle.disks.specs.Cluster
 use Rattle.disks.specs.Over.{HouseOn, house_over, StandOn, off', on', WorldOn, TraceOn, AsOneOn, HousesCompose}
 use Rattle.disks.specs.Over
-use Rattle.compose.specs.Compose.{run_then, upto_then, upto_map, Then, plan_done, plan-cut, at_opening, at_between}
+use Rattle.compose.proofs.Compose.{run_then, upto_then, upto_map, Then, plan_done, plan-cut, at_opening, at_between}
 
 module _ {C R M O Q : Type 0} (j : ℕ → Judge C R) (e : Machine C R) (h : HouseOn C R M O Q) (all size : ℕ) where
   abbrev pub Mem : Type 0

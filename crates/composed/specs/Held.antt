@@ -1,17 +1,24 @@
 -- Statements that lie above Type 0, which a contract can't hold, as types that can: that there is this proof of one.
 use Rattle.disks.specs.Device.{LayersCompose, WithinOver}
 use Rattle.disks.specs.Over.{HousesCompose}
-use Rattle.compose.specs.Compose.{layers_compose}
-use Rattle.compose.specs.Houses.{houses_compose}
-use Rattle.compose.specs.Inside.{within-over, HousesWithin, houses_within}
-use Rattle.compose.specs.Along.{LinearAlong, linear_along}
-use Rattle.compose.specs.Many.{ManyAtOnce, many_at_once, AnyWaiting, any_waiting}
-use Rattle.compose.specs.Sets.{TakenDone, taken_done, TakenTold, taken-told, TakenBusy, taken-busy, TakenMany, taken_many}
-use Rattle.compose.specs.Past.{InsertedIntoThePast, inserted_into_the_past, OneInserted, one_inserted}
-use Rattle.compose.specs.Simulation.{Carries, CarriesWithin, CarriesAnswers}
-use Rattle.compose.specs.Transfer.{carries, carries-within}
-use Rattle.compose.specs.TransferAnswers.{carries-answers}
-use Rattle.compose.specs.Ways.{HousesBusy, houses-busy, HousesAnswer, houses-answer}
+use Rattle.compose.specs.Along.{LinearAlong}
+use Rattle.compose.specs.Inside.{HousesWithin}
+use Rattle.compose.specs.Many.{ManyAtOnce, AnyWaiting}
+use Rattle.compose.specs.Past.{InsertedIntoThePast, OneInserted}
+use Rattle.compose.specs.Sets.{TakenDone, TakenTold, TakenBusy, TakenMany}
+use Rattle.compose.specs.Simulation.{Carries, CarriesWithin}
+use Rattle.compose.specs.SimulationFor.{CarriesFor, CarriesWithinFor, CarriesAnswers}
+use Rattle.compose.specs.Ways.{HousesBusy, HousesAnswer}
+use Rattle.compose.proofs.Along.{linear_along}
+use Rattle.compose.proofs.Compose.{layers_compose}
+use Rattle.compose.proofs.Houses.{houses_compose}
+use Rattle.compose.proofs.Inside.{within-over, houses_within}
+use Rattle.compose.proofs.Many.{many_at_once, any_waiting}
+use Rattle.compose.proofs.Past.{inserted_into_the_past, one_inserted}
+use Rattle.compose.proofs.Sets.{taken_done, taken-told, taken-busy, taken_many}
+use Rattle.compose.proofs.Transfer.{carries, carries-within, carries_for, carries_within_for}
+use Rattle.compose.proofs.TransferAnswers.{carries-answers}
+use Rattle.compose.proofs.Ways.{houses-busy, houses-answer}
 
 pub data Shown {A : Type 1} (proof : A) : Type 0 where
   is_shown : Shown proof
@@ -66,6 +73,12 @@ CarriesHeld = Shown {A = Carries} carries
 
 abbrev pub CarriesWithinHeld : Type 0
 CarriesWithinHeld = Shown {A = CarriesWithin} carries-within
+
+abbrev pub CarriesForHeld : Type 0
+CarriesForHeld = Shown {A = CarriesFor} carries_for
+
+abbrev pub CarriesWithinForHeld : Type 0
+CarriesWithinForHeld = Shown {A = CarriesWithinFor} carries_within_for
 
 abbrev pub CarriesAnswersHeld : Type 0
 CarriesAnswersHeld = Shown {A = CarriesAnswers} carries-answers

@@ -9,6 +9,7 @@ use Rattle.disks.specs.Cluster
 use Rattle.disks.specs.Cluster.{In, From, Ask, Tick, Out, Tell, House, Seen, called, fell, Packet, Asking, put, packets, tells, settled, away_from, count_at, Plain, Waiting, Ready, Linear, AsOne, BusyAtNine, Within, begin as begin', rises as rises', does as does', asked as asked', ticks as ticks', falls as falls', falls_rising as fallsRising', falls_doing as fallsDoing', falls_asked as fallsAsked', falls_ticking as fallsTicking', on as on', off as off'}
 use Rattle.compose.specs.Pure.{Pure, Stand, off, on, World, Trace, begin, rises, does, asked, ticks, falls, falls_rising, falls_doing, falls_asked, falls_ticking, after, fallen, risen, asking, PureAsOne, PureBusy}
 use Rattle.compose.specs.Simulation.{Simulates, Carries, Inside, CarriesWithin}
+use Rattle.compose.specs.SimulationFor.{SimulatesFor, CarriesFor, InsideFor, CarriesWithinFor}
 
 both-put : {A B : Type 0} (P : ℕ → A → B → Type 0) (i : ℕ) (s : A) (u : B) (hs : ℕ → A) (ks : ℕ → B) → P i s u → ((j : ℕ) → P j (hs j) (ks j)) → (j : ℕ) → P j (put i s hs j) (put i u ks j)
 both-put P i s u hs ks here others j = go (eqb j i) refl
@@ -17,7 +18,7 @@ both-put P i s u hs ks here others j = go (eqb j i) refl
     go true e = subst (λ (n : ℕ). P n s u) (sym (eqb-true _ _ e)) here
     go false e = others j
 
-module _ {M O R : Type 0} (h : House M O R) (q : Pure M O R) (all size limit : ℕ) (sim : Simulates h q all size limit) where
+module _ {M O R : Type 0} (h : House M O R) (q : Pure M O R) (all size limit : ℕ) (sim : SimulatesFor h q all size limit) where
   abbrev pub Match : (n j : ℕ) → Cluster.Stand h.Mem → Stand q.Mem q.D → Type 0
   Match n j (off' d) (off s) = sim.Off n j s d
   Match n j (off' d) (on m s) = ⊥
@@ -117,8 +118,8 @@ module _ {M O R : Type 0} (h : House M O R) (q : Pure M O R) (all size limit : �
   alike b (fallsTicking' {n} {es} {w} i k d g f hi t e up c) = let l = alike (omega arith) t in let z = is_on n w l.world l.beside i k d e in
       either n w l.world l.beside i es z.1 _ f (sim.does-cut n i z.0 z.1 k d g f Tick hi b z.3 up c) (λ y o. falls_ticking i z.0 z.1 y hi l.trace z.2 o)
 
-pub carries : Carries
-carries M O R h q p limit far sim = (
+pub carries_for : CarriesFor
+carries_for M O R h q p limit far sim = (
   λ one all size a b c d n es w l t. let y = alike h (q all size) all size limit (sim all size a b c d) (omega arith) t in let z = one all size all a es y.world y.trace in (z.0, z.1, z.2, z.3, 0, z.4),
   λ r one all size a b c d n es w l t i k m v x e f.
       let y = alike h (q all size) all size limit (sim all size a b c d) (omega arith) t in
@@ -127,8 +128,8 @@ carries M O R h q p limit far sim = (
       (z.0, z.1, subst (λ (u : List Asking). 8 ≤ count_at i u) y.beside.pending_is z.2),
 )
 
-pub carries-within : CarriesWithin
-carries-within M O R h q limit far sim inside all size a b c d n es w l t i hi = (
+pub carries_within_for : CarriesWithinFor
+carries_within_for M O R h q limit far sim inside all size a b c d n es w l t i hi = (
   λ v e.
       let y = alike h (q all size) all size limit (sim all size a b c d) (omega arith) t in
       let o = is_off h (q all size) all size limit (sim all size a b c d) n w y.world y.beside i v e in
@@ -138,3 +139,16 @@ carries-within M O R h q limit far sim inside all size a b c d n es w l t i hi =
       let o = is_on h (q all size) all size limit (sim all size a b c d) n w y.world y.beside i m v e in
       (inside all size a b c d).does n i o.0 o.1 m v x o.3,
 )
+
+-- a simulation for 2^56 steps, with that as its limit
+abbrev pub simulates_for : {M O R : Type 0} (h : House M O R) (q : Pure M O R) (all size : ℕ) → Simulates h q all size → SimulatesFor h q all size 72057594037927936
+simulates_for h q all size s =
+    record { Off = s.Off; On = s.On; blank = s.blank; off_later = s.off_later; on_later = s.on_later; opens = s.opens; opens-cut = s.opens-cut; out_is = s.out_is; does = s.does; does-cut = s.does-cut; cut = s.cut }
+
+pub carries : Carries
+carries M O R h q p sim = carries_for M O R h q p 72057594037927936 (omega arith) (λ all size a b c d. simulates_for h (q all size) all size (sim all size a b c d))
+
+pub carries-within : CarriesWithin
+carries-within M O R h q sim inside =
+    carries_within_for M O R h q 72057594037927936 (omega arith) (λ all size a b c d. simulates_for h (q all size) all size (sim all size a b c d))
+    (λ all size a b c d. record { opens = (inside all size a b c d).opens; does = (inside all size a b c d).does })

@@ -1,0 +1,11 @@
+pub mod Compose
+pub mod Houses
+pub mod Inside
+pub mod Group
+pub mod Ways
+pub mod Along
+pub mod Many
+pub mod Sets
+pub mod Past
+pub mod Transfer
+pub mod TransferAnswers
