@@ -1,7 +1,7 @@
-use Rattle.std.specs.Prelude.{◌≡◌, refl, List, [], ◌∷◌, ◌++◌, ℕ, suc, ◌<◌}
+use Rattle.std.specs.Prelude.{List, ◌∷◌, ◌++◌, ℕ}
 use Rattle.std.proofs.Common.{sym, subst}
-use Rattle.disks.specs.Cluster.{Seen, called, answered, fell, Plain, Waiting, Ready, Linear, at_first, makes, is_done, is_told, is_busy, has_fallen, is_cut}
-use Rattle.compose.specs.Along.{Follows, LinearAlong}
+use Rattle.disks.specs.Cluster.{Seen, answered, Waiting, Ready, Linear, at_first, makes, is_done, is_told, is_busy, has_fallen, is_cut}
+use Rattle.compose.specs.Along.{LinearAlong}
 
 pub linear_along : LinearAlong
 linear_along O R p q sim es s ws rs f c l = go l

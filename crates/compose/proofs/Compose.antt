@@ -1,10 +1,9 @@
 -- Layers compose. Whatever happens to a layer on a machine happens to the layer above the machine's judge: each of its events is a list
 -- of events of the machine below, and what the judge allows of these is what the layer above it may have met. A trace of the machine is
 -- carried along with a continuation that takes any derivation of the judge apart.
-use Rattle.std.specs.Prelude.{◌≡◌, refl, ◌⊎◌, List, [], ◌∷◌, ℕ, ◌≤◌}
-use Rattle.std.proofs.Common.{ap, sym, subst}
+use Rattle.std.specs.Prelude.{◌≡◌, refl, ◌⊎◌, List, [], ◌∷◌, ℕ}
 use Rattle.std.proofs.Math.Logic.{inl, inr}
-use Rattle.disks.specs.Device.{Device, AfterCut, Io, answer, read, write, sync, run, Upto, here, reads, writes, syncs, Machine, Event, called, cut_in, cut_between, cut_opening, World, off, on, Trace, begin, opened, opening_cut, answered, call_cut, between_cut, Judge, Allowed, at_start, answers, was_lost, was_done, came_between, came_opening, Keeps, Plan, gives, asks, Layer, then', through, over, Comes, ends, goes_on, CutShort, at_once, in_call, later, Stand, down, up, Above, first, rises, rise_cut, does, does_cut, cut, KeepsAbove, LayersCompose, shown, written, synced}
+use Rattle.disks.specs.Device.{Device, AfterCut, Io, answer, read, write, sync, run, Upto, here, reads, writes, syncs, Machine, Event, called, cut_in, cut_between, cut_opening, World, off, on, Trace, begin, opened, opening_cut, answered, call_cut, between_cut, Judge, Allowed, at_start, answers, was_lost, was_done, came_between, came_opening, Plan, gives, asks, Layer, then', through, over, Comes, ends, goes_on, CutShort, at_once, in_call, later, down, up, Above, first, rises, rise_cut, does, does_cut, cut, LayersCompose, shown, written, synced}
 
 pub run_then : {A B : Type 0} (p : Io A) (f : A → Io B) (d : Device) → run (then' p f) d ≡ run (f (run p d).value) (run p d).device
 unfolding run then'

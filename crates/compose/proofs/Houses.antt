@@ -1,15 +1,14 @@
 -- Houses compose, as layers do, house by house: each house's part below has a trace of its own, and a step touches one house.
-use Rattle.std.specs.Prelude.{◌≡◌, refl, ◌⊎◌, Bool, true, false, cond, not, ℕ, ◌≤◌, ◌<◌, T, eqb}
+use Rattle.std.specs.Prelude.{◌≡◌, refl, Bool, true, false, cond, ℕ, T, eqb}
 use Rattle.std.proofs.Math.Path.{ap}
-use Rattle.std.proofs.Common.{sym, subst, ◌∙◌, inl, inr, le_trans, eqb→eq, lit≤}
-use mathlib.Core.List.{List, [], ◌∷◌, ◌++◌, Memᴰ}
+use Rattle.std.proofs.Common.{inl, inr, le_trans, eqb→eq, lit≤}
+use mathlib.Core.List.{List, [], ◌∷◌}
 use Rattle.std.proofs.Math.Dec.{eqb_refl}
 use Rattle.disks.specs.Device.{Device, AfterCut, Io, answer, run, Upto, Machine, Event, World, off, on, opened, opening_cut, between_cut, cut_between, cut_opening, Judge, Allowed, at_start, Keeps, Plan, then', through, Comes, CutShort, at_once}
 use Rattle.disks.specs.Device
 use Rattle.disks.specs.Cluster.{In, From, Ask, Tick, Out, Seen, Packet, Asking, House, put, packets, tells, settled, AsOne}
 use Rattle.disks.specs.Cluster
-use Rattle.disks.specs.Over.{HouseOn, house_over, StandOn, off', on', WorldOn, TraceOn, AsOneOn, HousesCompose}
-use Rattle.disks.specs.Over
+use Rattle.disks.specs.Over.{HouseOn, house_over, StandOn, off', on', TraceOn, HousesCompose}
 use Rattle.compose.proofs.Compose.{run_then, upto_then, upto_map, Then, plan_done, plan-cut, at_opening, at_between}
 
 module _ {C R M O Q : Type 0} (j : ℕ → Judge C R) (e : Machine C R) (h : HouseOn C R M O Q) (all size : ℕ) where

@@ -1,11 +1,9 @@
-use Rattle.std.specs.Prelude.{◌≡◌, ℕ, ◌≤◌, ◌<◌}
-use mathlib.Core.List.{List, [], ◌∷◌}
+use Rattle.std.specs.Prelude.{ℕ}
+use mathlib.Core.List.{List, ◌∷◌}
 use Rattle.std.proofs.Common.{le_trans, lit≤}
-use Rattle.disks.specs.Device.{Device, Io, answer, read, write, sync, run, Fair, Machine, Event, called, World, off, on, Trace, opened, answered, Judge, Within, Plan, gives, asks, Layer, then', through, over, WithinOver, shown, written, synced}
-use Rattle.disks.specs.Cluster
-use Rattle.disks.specs.Over.{HouseOn, house_over}
+use Rattle.disks.specs.Device.{Device, Io, answer, read, write, sync, run, Fair, Machine, Event, called, off, on, Trace, opened, answered, Judge, Plan, gives, asks, then', through, WithinOver, shown, written, synced}
 use Rattle.compose.specs.Inside.{HousesWithin}
-use Rattle.compose.proofs.Compose.{Sim, sim}
+use Rattle.compose.proofs.Compose.{sim}
 use Rattle.compose.proofs.Houses
 
 pub fair_then : {A B : Type 0} (size : ℕ) (p : Io A) (f : A → Io B) (d : Device) → Fair size p d → Fair size (f (run p d).value) (run p d).device → Fair size (then' p f) d

@@ -1,8 +1,8 @@
-use Rattle.std.specs.Prelude.{◌≡◌, refl, ℕ}
+use Rattle.std.specs.Prelude.{◌≡◌}
 use Rattle.std.proofs.Common.{sym, ap, subst}
 use mathlib.Core.List.{List, [], ◌∷◌, ◌++◌, Memᴰ}
-use Rattle.disks.specs.Cluster.{Seen, Plain, Waiting, Ready, Linear, is_done}
-use Rattle.compose.specs.Many.{Exec, state_after, ready_after, ManyAtOnce, AnyWaiting}
+use Rattle.disks.specs.Cluster.{Linear, is_done}
+use Rattle.compose.specs.Many.{ManyAtOnce, AnyWaiting}
 
 pub many_at_once : ManyAtOnce
 many_at_once O R p x es [] ws s rs f c l = l

@@ -1,8 +1,8 @@
 use Rattle.std.proofs.Common.{subst}
 use mathlib.Core.List.Memᴰ
 use mathlib.Core.List.{List, [], ◌∷◌, ◌++◌, map, Memᴰ}
-use Rattle.std.specs.Prelude.{ℕ, suc, ◌<◌}
-use Rattle.disks.specs.Cluster.{Seen, called, answered, fell, Plain, Waiting, Ready, Linear}
+use Rattle.std.specs.Prelude.{ℕ}
+use Rattle.disks.specs.Cluster.{Seen, Plain, Waiting, Ready, Linear}
 use Rattle.compose.specs.Sets.{Takes, here, there, Perm, nil, ins, ready}
 use Rattle.compose.specs.Past.{Since, passes, Late, at_first, makes, is_done, was_done, is_told, is_busy, has_fallen, is_cut, InsertedIntoThePast, OneInserted}
 use Rattle.compose.proofs.Sets.{takes-behind, takes-before, takes_middle, perm_take, perm_put, taken_done, taken-told, taken-busy}

@@ -1,9 +1,8 @@
-use Rattle.std.specs.Prelude.{◌≡◌, refl, ℕ}
+use Rattle.std.specs.Prelude.{◌≡◌, refl}
 use Rattle.std.proofs.Common.{ap, subst}
 use mathlib.Core.List.{List, [], ◌∷◌, ◌++◌, Memᴰ}
-use Rattle.disks.specs.Cluster.{Seen, answered, Plain, Waiting, Ready, Linear, is_done, is_told, is_busy}
-use Rattle.compose.specs.Many.{Exec, state_after, ready_after}
-use Rattle.compose.specs.Sets.{Takes, here, there, TakesAll, taken, takes, Perm, nil, ins, ready, TakenDone, TakenTold, TakenBusy, TakenMany}
+use Rattle.disks.specs.Cluster.{Linear, is_done, is_told, is_busy}
+use Rattle.compose.specs.Sets.{Takes, here, there, taken, takes, Perm, nil, ins, ready, TakenDone, TakenTold, TakenBusy, TakenMany}
 
 -- what is taken out stands somewhere, and what stands somewhere can be taken out
 pub take_split : {A : Type 0} {x : A} {xs ys : List A} → Takes x xs ys → (before : List A) × (behind : List A) × (xs ≡ before ++ x ∷ behind) × (ys ≡ before ++ behind)

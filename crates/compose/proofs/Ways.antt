@@ -1,15 +1,15 @@
-use Rattle.std.specs.Prelude.{◌≡◌, Bool, true, false, cond, ℕ, suc, ◌+◌, ◌≤◌, ◌<◌, T, eqb, length}
+use Rattle.std.specs.Prelude.{◌≡◌, Bool, true, false, cond, ℕ, ◌≤◌, T, eqb}
 use Rattle.std.proofs.Math.Path.{refl}
 use Rattle.std.proofs.Common.{ap, sym, subst, ◌∙◌, le_trans, lit≤}
 use mathlib.Core.List.Memᴰ
-use mathlib.Core.List.{List, ◌++◌, Memᴰ}
-use Rattle.disks.specs.Device.{Device, run, Machine, Judge, Keeps, Comes}
+use mathlib.Core.List.{List}
+use Rattle.disks.specs.Device.{Device, run, Machine, Judge, Keeps}
 use Rattle.disks.specs.Cluster.{In, From, Ask, Tick, Out, Tell, Seen, Packet, Asking, House, put, packets, tells, settled, count_at, distinct, inside, Helped, BusyAtNine, Answers}
 use Rattle.disks.specs.Cluster
-use Rattle.disks.specs.Over.{HouseOn, house_over, StandOn, off', on', WorldOn, TraceOn}
-use Rattle.compose.specs.Ways.{BusyOn, HousesBusy, Glance, dark, lit, glance, May, Doing, doing, Rising, rising, Way, there, by-rising, by-doing, by-ticking, Served, AnswersOn, HousesAnswer}
+use Rattle.disks.specs.Over.{HouseOn, house_over}
+use Rattle.compose.specs.Ways.{HousesBusy, Glance, dark, lit, glance, May, Doing, doing, Rising, rising, Way, there, by-rising, by-doing, by-ticking, Served, HousesAnswer}
 use Rattle.compose.proofs.Group.{in_group}
-use Rattle.compose.proofs.Houses.{Mem, under, stand, step, done, up_done, sim}
+use Rattle.compose.proofs.Houses.{Mem, stand, step, done, up_done, sim}
 
 pub houses-busy : HousesBusy
 houses-busy C R M O Q busy j e h keeps on all size a b lo hi n es w lt tr i k m d x was mem =

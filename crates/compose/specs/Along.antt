@@ -1,9 +1,8 @@
 -- One-place histories along a simulation: where each answer that one service allows is one that another allows, from related states to
 -- related states, what may be seen of the one may be seen of the other, with the same calls waiting, ready, falls and cuts.
 -- Assumes nothing.
-use Rattle.std.specs.Prelude.{◌≡◌, refl, List, [], ◌∷◌, ◌++◌, ℕ, suc, ◌<◌}
-use Rattle.std.proofs.Common.{sym, subst}
-use Rattle.disks.specs.Cluster.{Seen, called, answered, fell, Plain, Waiting, Ready, Linear, at_first, makes, is_done, is_told, is_busy, has_fallen, is_cut}
+use Rattle.std.specs.Prelude.{◌≡◌, List, ℕ}
+use Rattle.disks.specs.Cluster.{Seen, Plain, Waiting, Ready, Linear}
 
 pub record Follows {O R : Type 0} (p q : Plain O R) : Type 1 where
   pub Rel : p.State → q.State → Type 0

@@ -1,8 +1,5 @@
 -- A layer, and a house, stays within the device if the machine below does: all that it asks of the device is asked by the machine.
-use Rattle.std.specs.Prelude.{◌≡◌, ℕ, ◌≤◌, ◌<◌}
-use mathlib.Core.List.{List, [], ◌∷◌}
-use Rattle.std.proofs.Common.{le_trans, lit≤}
-use Rattle.disks.specs.Device.{Device, Io, answer, read, write, sync, run, Fair, Machine, Event, called, World, off, on, Trace, opened, answered, Judge, Within, Plan, gives, asks, Layer, then', through, over, WithinOver, shown, written, synced}
+use Rattle.disks.specs.Device.{Machine, Within}
 use Rattle.disks.specs.Cluster
 use Rattle.disks.specs.Over.{HouseOn, house_over}
 

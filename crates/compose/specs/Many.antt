@@ -1,10 +1,9 @@
 -- Several waiting calls done one after the other at one point of a history, by a service that has one answer for each call; and a call
 -- that waits, by membership in place of its position.
 -- Assumes nothing.
-use Rattle.std.specs.Prelude.{◌≡◌, refl, ℕ}
-use Rattle.std.proofs.Common.{sym, ap, subst}
+use Rattle.std.specs.Prelude.{◌≡◌, ℕ}
 use mathlib.Core.List.{List, [], ◌∷◌, ◌++◌, Memᴰ}
-use Rattle.disks.specs.Cluster.{Seen, Plain, Waiting, Ready, Linear, is_done}
+use Rattle.disks.specs.Cluster.{Seen, Plain, Waiting, Ready, Linear}
 
 -- a service's one answer to a call
 pub record Exec {O R : Type 0} (p : Plain O R) : Type 0 where

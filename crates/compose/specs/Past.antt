@@ -4,9 +4,7 @@
 -- at one of them. By induction on the history there is an ordinary one for every choice: where a step reaches a new state, those chosen
 -- to be done there are done right then, and it stays as it is.
 -- Assumes nothing.
-use Rattle.std.proofs.Common.{subst}
-use mathlib.Core.List.Memᴰ
-use mathlib.Core.List.{List, [], ◌∷◌, ◌++◌, map, Memᴰ}
+use mathlib.Core.List.{List, [], ◌∷◌, map, Memᴰ}
 use Rattle.std.specs.Prelude.{ℕ, suc, ◌<◌}
 use Rattle.disks.specs.Cluster.{Seen, called, answered, fell, Plain, Waiting, Ready, Linear}
 use Rattle.compose.specs.Sets.{Takes, Perm, ready}

@@ -1,9 +1,9 @@
 -- Pure houses: each event is one atomic change of what a house stores, and a fall leaves what was stored before the event or after it.
 -- What can happen to such houses, what is claimed of what customers see of them, and what it is for them to answer in so many steps.
 -- Assumes nothing.
-use Rattle.std.specs.Prelude.{◌≡◌, ◌⊎◌, Bool, true, false, cond, not, ℕ, zero, suc, ◌+◌, ◌<◌, ◌≤◌, T, length}
+use Rattle.std.specs.Prelude.{◌≡◌, ◌⊎◌, not, ℕ, suc, ◌+◌, ◌<◌, ◌≤◌, T, length}
 use mathlib.Core.List.{List, [], ◌∷◌, ◌++◌, Memᴰ}
-use Rattle.disks.specs.Cluster.{In, From, Ask, Tick, Out, To, Tell, Seen, called, answered, fell, Packet, Asking, put, packets, tells, is_used, settled, away_from, count_at, Plain, Waiting, Ready, Linear, distinct, inside}
+use Rattle.disks.specs.Cluster.{In, From, Ask, Tick, Out, Tell, Seen, called, answered, fell, Packet, Asking, put, packets, tells, is_used, settled, away_from, count_at, Plain, Waiting, Ready, Linear, distinct, inside}
 
 -- D: what is stored; Mem: what is remembered while the power is on
 pub record Pure (M O R : Type 0) : Type 1 where

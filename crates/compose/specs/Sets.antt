@@ -1,10 +1,9 @@
 -- Lists without regard to order: one element taken out wherever it stands, and two lists with the same elements. With them the steps of
 -- a one-place history, by which call waits and which answer is ready in place of where it stands.
 -- Assumes nothing.
-use Rattle.std.specs.Prelude.{◌≡◌, refl, ℕ}
-use Rattle.std.proofs.Common.{ap, subst}
-use mathlib.Core.List.{List, [], ◌∷◌, ◌++◌, Memᴰ}
-use Rattle.disks.specs.Cluster.{Seen, answered, Plain, Waiting, Ready, Linear, is_done, is_told, is_busy}
+use Rattle.std.specs.Prelude.{ℕ}
+use mathlib.Core.List.{List, [], ◌∷◌}
+use Rattle.disks.specs.Cluster.{Seen, answered, Plain, Waiting, Ready, Linear}
 use Rattle.compose.specs.Many.{Exec, state_after, ready_after}
 
 -- ys is xs with one x taken out, wherever it stands

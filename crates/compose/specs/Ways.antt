@@ -1,11 +1,8 @@
 -- Houses compose for the rest of what is promised: they say busy only where they may, and they answer. A way of answering must go by
 -- what can be seen (power, memory above, packets, what is pending), whichever answers that the judge allows the parts give.
-use Rattle.std.specs.Prelude.{◌≡◌, Bool, true, false, cond, ℕ, suc, ◌+◌, ◌≤◌, ◌<◌, T, eqb, length}
-use Rattle.std.proofs.Math.Path.{refl}
-use Rattle.std.proofs.Common.{ap, sym, subst, ◌∙◌, le_trans, lit≤}
-use mathlib.Core.List.Memᴰ
+use Rattle.std.specs.Prelude.{◌≡◌, ℕ, suc, ◌+◌, ◌≤◌, ◌<◌, T, length}
 use mathlib.Core.List.{List, ◌++◌, Memᴰ}
-use Rattle.disks.specs.Device.{Device, run, Machine, Judge, Keeps, Comes}
+use Rattle.disks.specs.Device.{Machine, Judge, Keeps, Comes}
 use Rattle.disks.specs.Cluster.{In, From, Ask, Tick, Out, Tell, Seen, Packet, Asking, House, put, packets, tells, settled, count_at, distinct, inside, Helped, BusyAtNine, Answers}
 use Rattle.disks.specs.Cluster
 use Rattle.disks.specs.Over.{HouseOn, house_over, StandOn, off', on', WorldOn, TraceOn}

@@ -1,8 +1,8 @@
 // The plain array that the journal is compared with: a few sectors of the device, and the transaction that was cut, if one was.
 use crate::random::Random;
-use octets::{BLANK_SECTOR, SECTOR_BYTES};
 use journal::state::Write;
 use journal::{GUARDED, Place};
+use octets::{BLANK_SECTOR, SECTOR_BYTES};
 use std::alloc::{AllocError, Global};
 
 // How many sectors are played with; they stand apart from one another on the device.

@@ -1,9 +1,9 @@
 -- How what code did is put together from what its calls did.
 -- after-X: the request X was answered, and the rest of the program is done; cut-X: it failed.
-use Rattle.std.proofs.Common.{◌≡◌, ℕ, zero, suc, ◌+◌, ◌-◌, ◌<◌, Bool, true, false, cond, eqb, ◌⊎◌, List, is_err, Ok, Err, Result, subst, inl, inr, suc-add, zero-add, add-one, arith, eq-eqb, ne_eqb}
+use Rattle.std.proofs.Common.{◌≡◌, ℕ, Bool, true, false, cond, eqb, List, is_err, Ok, Err, Result, subst, eq-eqb, ne_eqb}
 use mathlib.Core.Bool.{false≢true}
 use Rattle.disks.specs.Device.{Io, answer, read, write, sync, then'}
-use Rattle.device.specs.Does.{Act, idle, gave, took, settled, broke, Does, ends, stops, idles, reads, writes, syncs, Cut, over, read_io, write_io, sync_io}
+use Rattle.device.specs.Does.{Act, gave, took, settled, broke, Does, ends, stops, idles, reads, writes, syncs, Cut, over, read_io, write_io, sync_io}
 
 -- a program that ended well, and then another
 pub after_call : {S E F A B : Type 0} {did : S → Act → S → Type 0} (p : Io A) (f : A → Io B) {a : A} {r : Result B E} {s m t : S} →

@@ -1,5 +1,5 @@
 -- What code that uses a disk did, step by step, against a program of the mathematics.
-use Rattle.std.specs.Prelude.{◌≡◌, ℕ, List, Ok, Err, Result}
+use Rattle.std.specs.Prelude.{ℕ, List, Ok, Err, Result}
 use Rattle.disks.specs.Device.{Io, answer, read, write, sync}
 
 -- one thing that a disk was seen to do

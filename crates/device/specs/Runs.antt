@@ -1,8 +1,8 @@
 -- Code that does what a program does leaves a device as the program does.
-use Rattle.std.specs.Prelude.{◌≡◌, ℕ, List, Ok, Err, Result, refl}
-use Rattle.std.proofs.Common.{subst, sym}
-use Rattle.disks.specs.Device.{Device, Io, answer, read, write, sync, run, Upto, here, reads as upto-reads, writes as upto-writes, syncs as upto-syncs, shown, written, synced}
-use Rattle.device.specs.Does.{Act, idle, gave, took, settled, broke, Does, ends, stops, idles, reads, writes, syncs}
+use Rattle.std.specs.Prelude.{ℕ, List, Ok, Err, Result, refl}
+use Rattle.std.proofs.Common.{subst}
+use Rattle.disks.specs.Device.{Device, Io, read, write, sync, run, here, reads as upto-reads, writes as upto-writes, syncs as upto-syncs, shown, written, synced}
+use Rattle.device.specs.Does.{Act, Does, ends, stops, idles, reads, writes, syncs}
 use Rattle.device.specs.Tied.{Models, Outcome, DoesRuns}
 
 upon_read : {S A E : Type 0} (holds : S → Device → Type 0) (n : ℕ) (k : List ℕ → Io A) (r : Result A E) (t : S) (d : Device) →

@@ -4,8 +4,8 @@ ghost use Rattle.device.specs.Does.{Act, broke, Does, read_io, write_io, sync_io
 ghost use Rattle.device.specs.Tied.{Models, DoesRuns};
 ghost use Rattle.device.specs.Runs.{all_run};
 
-use octets::SECTOR_BYTES;
 use journal::Place;
+use octets::SECTOR_BYTES;
 
 // The power failed, or the disk did not answer: whoever asked gives up.
 #[derive(Clone, Copy, Debug, Drop)]

@@ -3,9 +3,9 @@ ghost use Rattle.device.specs.Does.{Act, Does};
 ghost use Rattle.journal.specs.Programs.{get_io};
 
 use crate::disk::{Disk, Fault};
-use octets::BLANK_SECTOR;
 use journal::Place;
 use journal::state::{Got, Journal, Refused, is_guarded};
+use octets::BLANK_SECTOR;
 
 // The sector as it was last put.
 pub fn get<D: Disk>(journal: &Journal, disk: &mut D, at: Place) -> Result<Got, Fault>

@@ -4,10 +4,10 @@ ghost use Rattle.journal.specs.Programs.{scan_io, open_io};
 
 use crate::disk::{Disk, Fault};
 use crate::recover::recover;
-use octets::BLANK_SECTOR;
 use journal::scan::Scan;
 use journal::state::{Opened, Slot};
 use journal::{Place, SLOT_SECTORS};
+use octets::BLANK_SECTOR;
 
 // Reads a slot, first sector to last.
 fn scan<D: Disk>(disk: &mut D, size: u64, slot: Slot) -> Result<Scan, Fault>

@@ -5,10 +5,10 @@ ghost use Rattle.device.specs.Told.{leaving};
 ghost use Rattle.journal.specs.Programs.{write_all_io, record_of, transact_io, put_io};
 
 use crate::disk::{Disk, Fault};
-use octets::BLANK_SECTOR;
 use journal::part::{fill_first_half, fill_second_half};
 use journal::state::{Journal, Outcome, Refused, Write, is_allowed};
 use journal::{NUMBERS_END, Place};
+use octets::BLANK_SECTOR;
 
 // Writes a record of these writes into the slot that begins there, two sectors for each write.
 fn write_record<D: Disk>(disk: &mut D, at: u64, number: u64, writes: &[Write]) -> Result<(), Fault>

@@ -4,11 +4,11 @@ ghost use Rattle.device.specs.Does.{Act, Does};
 ghost use Rattle.journal.specs.Programs.{replay_from, redo_io, recover_io};
 
 use crate::disk::{Disk, Fault};
-use octets::BLANK_SECTOR;
 use journal::Place;
 use journal::part::{Part, join_halves};
 use journal::scan::Scan;
 use journal::state::{Journal, Opened, Slot};
+use octets::BLANK_SECTOR;
 
 // Does the first so many writes again of the record in the slot that begins there.
 fn replay<D: Disk>(disk: &mut D, at: u64, count: u64) -> Result<(), Fault>

@@ -2,13 +2,13 @@
 #![tactic(auto)]
 
 use anyhow::anyhow;
-use octets::BLANK_SECTOR;
 use device::disk::Disk;
 use device::open::open;
 use device::put::put;
 use file_disk::disk::FileDisk;
 use journal::state::{Opened, Outcome, Write};
 use journal::{GUARDED, MOST_WRITES, Place};
+use octets::BLANK_SECTOR;
 use std::env;
 use std::fs::{File, OpenOptions};
 

@@ -6,9 +6,9 @@ ghost use Rattle.file_disk.specs.Disks.{disk_did, DiskHolds, Outside, Failed};
 ghost use Rattle.file_disk.specs.Models.{disk_models};
 
 use crate::places::Places;
-use octets::SECTOR_BYTES;
 use device::disk::{Disk, Fault};
 use journal::Place;
+use octets::SECTOR_BYTES;
 
 #[derive(Drop)]
 pub struct FileDisk<F> {

@@ -1,11 +1,9 @@
 -- A buffer that is written from its front, part behind part.
-use Rattle.std.proofs.Common.{◌≡◌, ℕ, ◌+◌, ◌-◌, List, [], ◌∷◌, ◌++◌, length, take, drop, replicate, sym, refl, ap, ◌∙◌, subst, append_assoc, append-nil, arith, length-append}
+use Rattle.std.proofs.Common.{◌≡◌, ℕ, List, [], ◌∷◌, ◌++◌, length, take, drop, replicate, sym, refl, ap, ◌∙◌, append_assoc, append-nil, arith, length-append}
 use borrow.Rule.Slice.PartMut.{put_mid}
 use Rattle.std.proofs.lemmas.List.{take_at, drop_at}
 use Rattle.octets.specs.Numbers.{bytes_of, numbers_bytes}
 use Rattle.octets.proofs.Numbers.{length-bytes_of}
-use Rattle.journal.specs.declared.part.Part.{Part}
-use Rattle.journal.specs.Format.{mark, part_bytes}
 
 -- what was laid so far, one part more, and what is behind it
 pub laid : (a k : ℕ) (front rest xs ys zs : List ℕ) → xs ≡ front ++ rest → length front ≡ a → ys ≡ zs → put_mid a k xs ys ≡ (front ++ zs) ++ drop k rest

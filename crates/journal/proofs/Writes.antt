@@ -1,5 +1,5 @@
 -- The writes of a transaction, looked through from the front: what those that are left say, one step on and at the end.
-use Rattle.std.proofs.Common.{◌≡◌, ℕ, ◌+◌, ◌-◌, ◌<◌, ◌≤◌, Bool, true, false, not, ◌&&◌, ◌||◌, eqb, List, length, get_or, take, drop}
+use Rattle.std.proofs.Common.{◌≡◌, ℕ, ◌+◌, ◌-◌, ◌<◌, ◌≤◌, true, false, not, ◌&&◌, ◌||◌, eqb, List, length, get_or, take, drop}
 use Rattle.std.proofs.lemmas.List.{at_drop_more, at_drop_all, take_rest}
 use Rattle.journal.specs.declared.state.Write.{Write}
 use Rattle.journal.specs.Programs.{no_write, in_area, all_in_area, named, apart}

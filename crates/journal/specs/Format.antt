@@ -1,8 +1,7 @@
 -- Sectors of the journal.
 -- Assumes nothing.
-use Rattle.std.specs.Prelude.{ℕ, zero, suc, ◌+◌, ◌*◌, ◌/◌, ◌%◌, ◌^◌, Bool, true, false, cond, ◌&&◌, List, [], ◌∷◌, ◌++◌, take, drop, replicate, ◌==◌, nat_le, nat_lt}
+use Rattle.std.specs.Prelude.{ℕ, ◌%◌, Bool, cond, ◌&&◌, List, [], ◌∷◌, ◌++◌, take, drop, replicate, ◌==◌, nat_le, nat_lt}
 use Rattle.octets.specs.Numbers.{field, numbers_bytes}
-use Rattle.journal.specs.declared.Place.{Place}
 use Rattle.journal.specs.declared.part.Part.{Part}
 use Rattle.journal.specs.declared.part.Found.{Found}
 use Rattle.journal.specs.declared.part.Found.TheVariants.{Blank, Part as IsPart, Foreign}

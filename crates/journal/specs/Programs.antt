@@ -5,7 +5,6 @@ use Rattle.disks.specs.Device.{Io, answer, read, write, sync, then'}
 use Rattle.journal.specs.Format.{slot_sectors, guarded, numbers_end, part_bytes, part_of, half_of}
 use Rattle.journal.specs.Scans.{scan_start, scan_next, redo_number, redo_count, higher}
 use Rattle.journal.specs.declared.Place.{Place}
-use Rattle.journal.specs.declared.part.Part.{Part}
 use Rattle.journal.specs.declared.scan.Scan.{Scan}
 use Rattle.journal.specs.declared.state.Write.{Write}
 use Rattle.journal.specs.declared.state.Slot.{Slot}

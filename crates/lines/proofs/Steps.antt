@@ -2,7 +2,7 @@
 use Rattle.std.proofs.Common.{◌≡◌, ℕ, ◌+◌, ◌*◌, ◌/◌, ◌%◌, ◌<◌, ◌≤◌, ◌≢◌, List, [], ◌∷◌, ◌++◌, length, get_or, take, drop, Some, None, Option, sym, refl, ap, ◌∙◌, ap₂, append_assoc, append-nil, arith}
 use Rattle.std.proofs.lemmas.List.{drop_more, drop_all, take_more}
 use Rattle.std.specs.Option.{option_map}
-use Rattle.lines.specs.Decimals.{with_digit, decimal_from, decimal_of}
+use Rattle.lines.specs.Decimals.{with_digit, decimal_from}
 use Rattle.lines.specs.Hexes.{digit_of, digit_for, byte_in, with_byte, bytes_in, hex_of, HexRoundTrip}
 use Rattle.lines.specs.Lines.{Parts, with_front, cut_at}
 use Rattle.std.proofs.lemmas.Bool.Decides.{nat_tests}

@@ -1,11 +1,11 @@
 -- What a sector that was not there yet leaves of all of them.
-use Rattle.std.proofs.Common.{◌≡◌, ℕ, Bool, true, false, List, replicate, Some, None, box_value, Box, sym, refl, ap, ◌∙◌, arith}
+use Rattle.std.proofs.Common.{◌≡◌, ℕ, List, replicate, Some, None, box_value, Box, refl, ap, arith}
 use Rattle.std.proofs.lemmas.Grind.{common_steps}
 use Rattle.std.specs.declared.alloc.Global.{Global}
 use Rattle.std.specs.BTreeMap.{get, Updates}
 use Rattle.std.specs.Ordering.{nat_cmp}
 use Rattle.disks.specs.Device.{zeros}
-use Rattle.memory_disk.specs.Contents.{Table, kept_of, shown_of, kept_at, shown_at, Wrote}
+use Rattle.memory_disk.specs.Contents.{Table, kept_of, shown_of, Wrote}
 use Rattle.memory_disk.specs.declared.sectors.Sector.{Sector}
 
 pub blank_zeros : replicate {A = ℕ} 512 0 ≡ zeros 512

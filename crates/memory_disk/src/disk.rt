@@ -5,10 +5,10 @@ ghost use Rattle.memory_disk.specs.Disks.{MemoryDid, MemoryHolds, answers, Count
 ghost use Rattle.memory_disk.specs.Models.{memory_models};
 
 use crate::MemoryDisk;
-use octets::SECTOR_BYTES;
 use device::disk::{Disk, Fault};
 use journal::Place;
 use journal::state::Write;
+use octets::SECTOR_BYTES;
 use std::alloc::AllocError;
 
 impl MemoryDisk {

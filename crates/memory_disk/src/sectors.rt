@@ -5,8 +5,8 @@ ghost use Rattle.disks.specs.Device.{zeros};
 ghost use Rattle.memory_disk.specs.Contents.{kept_at, shown_at, present, Wrote, Alike, Settled, Lost};
 
 use crate::chance::Chance;
-use octets::{BLANK_SECTOR, SECTOR_BYTES};
 use journal::state::Write;
+use octets::{BLANK_SECTOR, SECTOR_BYTES};
 use std::alloc::{AllocError, Global};
 use std::collections::BTreeMap;
 

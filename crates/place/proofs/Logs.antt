@@ -1,5 +1,5 @@
 -- A log with one change more, and how far back it must be read.
-use Rattle.std.proofs.Common.{◌≡◌, ℕ, ◌+◌, ◌-◌, ◌<◌, ◌≤◌, Bool, cond, List, [], ◌∷◌, ◌++◌, length, get_or, take, replicate, Some, None, Option, sym, refl, ap, ◌∙◌, subst, arith, eq-eqb}
+use Rattle.std.proofs.Common.{◌≡◌, ℕ, ◌+◌, ◌-◌, ◌<◌, ◌≤◌, Bool, cond, List, [], ◌∷◌, ◌++◌, length, get_or, take, replicate, Some, None, sym, refl, ap, ◌∙◌, subst, arith, eq-eqb}
 use Rattle.wire.specs.declared.number.Volume.{Volume as Number}
 use Rattle.place.specs.declared.kept.Kept.TheVariants as typed
 use Rattle.std.proofs.lemmas.List.{take_more}

@@ -1,6 +1,6 @@
 -- Calls on a journal that is on: what each answers and leaves, and what is left where it is cut.
-use Rattle.std.proofs.Common.{◌≡◌, ℕ, zero, suc, ◌+◌, ◌*◌, ◌<◌, ◌≤◌, Bool, true, false, cond, ◌&&◌, T, eqb, ltb, leb, ◌≢◌, ◌⊎◌, List, [], ◌∷◌, ◌++◌, length, sym, refl, ap, ◌∙◌, subst, inl, inr, arith, ltb-false, ltb-true, leb-true}
-use Rattle.disks.specs.Device.{Device, Io, answer, read, write, sync, run, Ran, Upto, here, reads, syncs, shown, synced, then', AfterCut}
+use Rattle.std.proofs.Common.{◌≡◌, ℕ, ◌+◌, ◌<◌, ◌≤◌, Bool, true, false, cond, ◌&&◌, T, ltb, leb, ◌⊎◌, List, length, refl, ap, ◌∙◌, subst, inl, inr, arith, ltb-true, leb-true}
+use Rattle.disks.specs.Device.{Device, Io, answer, read, sync, run, Ran, Upto, here, reads, syncs, synced, then', AfterCut}
 use Rattle.compose.proofs.Compose.{run_then, upto_then, upto_map}
 use Rattle.journal.specs.Programs.{base, in_area, all_in_area, apart, allowed, write_all_io, record_of, transact_io, put_io, Put', get_io, after_put}
 use Rattle.recovery.specs.Machines.{last, whole_sectors}
@@ -9,10 +9,9 @@ use Rattle.journal.specs.declared.state.Write.{Write}
 use Rattle.journal.specs.declared.state.Journal.{Journal}
 use Rattle.journal.specs.declared.state.Refused.TheVariants.{OutOfRange, NumbersUsedUp}
 use Rattle.journal.specs.declared.state.Outcome.TheVariants.{Done, Refused}
-use Rattle.journal.specs.declared.state.Got.{Got}
 use Rattle.journal.specs.declared.state.Got.TheVariants.{Sector, Refused as GotRefused}
 use Rattle.recovery.proofs.Writing.{all_upto}
-use Rattle.recovery.proofs.Inv.{Off, Safe, On}
+use Rattle.recovery.proofs.Inv.{Off, On}
 use Rattle.recovery.proofs.Cutting.{rest-cut, record_cut, placed, put_on}
 
 both : (a b : Bool) → T (a && b) → T a × T b

@@ -1,11 +1,11 @@
 -- What transactions and opening cost, and what opening makes of any device.
-use Rattle.std.proofs.Common.{◌≡◌, ℕ, zero, suc, ◌+◌, ◌*◌, ◌<◌, ◌≤◌, Bool, true, false, cond, ◌&&◌, T, eqb, ltb, leb, ◌≢◌, ◌⊎◌, List, [], ◌∷◌, ◌++◌, length, sym, refl, ap, ◌∙◌, subst, inl, inr, arith, lt-ltb, eqb-true}
+use Rattle.std.proofs.Common.{◌≡◌, ℕ, zero, suc, ◌+◌, ◌*◌, ◌<◌, ◌≤◌, Bool, true, false, cond, ◌&&◌, T, eqb, ltb, ◌≢◌, ◌⊎◌, List, [], ◌∷◌, ◌++◌, length, sym, refl, ap, ◌∙◌, subst, inl, inr, arith, lt-ltb, eqb-true}
 use borrow.Author.Tests.{eqb-false}
-use Rattle.disks.specs.Device.{Device, Io, answer, read, write, sync, run, Ran, Upto, shown, written, synced, then', AfterCut, Event, off, Trace}
+use Rattle.disks.specs.Device.{Device, Io, answer, read, write, sync, run, Ran, shown, written, synced, then'}
 use Rattle.compose.proofs.Compose.{run_then}
 use Rattle.journal.specs.Format.{found, part_of, half_of}
 use Rattle.journal.specs.Scans.{scan_start, scan_next, scan_found, scan_part, scanned, redo_number, redo_count}
-use Rattle.journal.specs.Programs.{base, other, in_area, allowed, write_all_io, record_from, record_of, transact_io, put_io, Put', scan_from, scan_io, replay_from, redo_io, recover_io, open_io, ready}
+use Rattle.journal.specs.Programs.{base, other, allowed, write_all_io, record_from, record_of, transact_io, put_io, scan_from, scan_io, replay_from, redo_io, recover_io, open_io, ready}
 use Rattle.recovery.specs.Promises.{count, PutCosts, OpenCosts, OpensAgain, ForeignRefused, OursOpened}
 use Rattle.journal.specs.declared.part.Part.{Part}
 use Rattle.journal.specs.declared.part.Found.{Found}

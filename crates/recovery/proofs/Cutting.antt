@@ -1,17 +1,16 @@
 -- Power that fails: at rest, while a record is written, and while its sectors are written in place. What is left is the array before the
 -- transaction or after it.
-use Rattle.std.proofs.Common.{◌≡◌, ℕ, zero, suc, ◌+◌, ◌*◌, ◌/◌, ◌<◌, ◌≤◌, Bool, true, false, cond, ◌&&◌, T, eqb, ltb, leb, ◌≢◌, ◌⊎◌, List, [], ◌∷◌, ◌++◌, length, sym, refl, ap, ◌∙◌, subst, inl, inr, arith, ltb-false, ltb-true, leb-true}
+use Rattle.std.proofs.Common.{◌≡◌, ℕ, ◌+◌, ◌*◌, ◌<◌, ◌≤◌, Bool, true, false, ◌&&◌, T, ltb, leb, ◌⊎◌, List, [], ◌++◌, length, sym, refl, ap, ◌∙◌, subst, inl, inr, arith, ltb-false, ltb-true, leb-true}
 use mathlib.Core.List.Memᴰ
 use mathlib.Core.List.{Memᴰ}
-use Rattle.disks.specs.Device.{Device, run, Upto, shown, latest, synced, AfterCut, all_bytes}
-use Rattle.journal.specs.Format.{found}
+use Rattle.disks.specs.Device.{Device, run, Upto, shown, latest, synced, AfterCut}
 use Rattle.journal.specs.Programs.{base, other, in_area, named, all_in_area, write_all_io, record_of, record_sector, after_put}
 use Rattle.recovery.specs.Machines.{last, whole_sectors}
 use Rattle.journal.specs.declared.state.Write.{Write}
 use Rattle.journal.specs.declared.state.Slot.{Slot}
 use Rattle.journal.specs.declared.state.Slot.TheVariants.{First, Second}
 use Rattle.journal.specs.declared.state.Journal.{Journal}
-use Rattle.recovery.proofs.Lasts.{last-append, last-named, last_other, last_same, named_or, below-area}
+use Rattle.recovery.proofs.Lasts.{last-append, last_other, last_same, below-area}
 use Rattle.recovery.proofs.Writing.{Alike, alike_shown, Among, upto_other, upto_grown, all_upto, all_shown}
 use Rattle.recovery.proofs.Records.{from_in, from_out, from_among, sector-bytes}
 use Rattle.recovery.proofs.Scanning.{Ours}

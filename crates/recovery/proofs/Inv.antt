@@ -1,26 +1,24 @@
 -- What holds of a device and a journal's memory, with the power off and on. The array is what the guarded sectors are to show.
 -- Off: doing the complete records again, the older first, gives the array. Safe: wherever the device is cut, doing again the newer record alone, or
 -- both, gives the array; so the older one's slot may be written over. On: and the device shows the array.
-use Rattle.std.proofs.Common.{◌≡◌, ℕ, zero, suc, ◌+◌, ◌*◌, ◌/◌, ◌<◌, ◌≤◌, Bool, true, false, cond, ◌&&◌, T, eqb, ltb, leb, ◌≢◌, ◌⊎◌, List, [], ◌∷◌, ◌++◌, length, sym, refl, ap, ◌∙◌, subst, inl, inr, append-nil, arith, le→leb, lt→ltb, ltb-false, ltb-true, le-ltb, lt-ltb, eqb-true, leb-true}
+use Rattle.std.proofs.Common.{◌≡◌, ℕ, ◌+◌, ◌<◌, ◌≤◌, Bool, true, false, cond, T, ltb, ◌⊎◌, List, [], ◌∷◌, ◌++◌, length, refl, ap, ◌∙◌, subst, inl, inr, append-nil, arith, le-ltb, lt-ltb}
 use mathlib.Core.List.Memᴰ
 use mathlib.Core.List.{Memᴰ}
-use borrow.Author.Tests.{eqb-false}
 use Rattle.disks.specs.Device.{Device, shown, latest, AfterCut, all_bytes}
 use Rattle.journal.specs.Format.{found}
 use Rattle.journal.specs.Scans.{scanned, redo_number, redo_count, writes_from}
 use Rattle.journal.specs.Programs.{base, other, in_area}
 use Rattle.recovery.specs.Machines.{last}
 use Rattle.journal.specs.declared.part.Part.{Part}
-use Rattle.journal.specs.declared.part.Found.TheVariants.{Blank, Part as IsPart, Foreign}
+use Rattle.journal.specs.declared.part.Found.TheVariants.{Part as IsPart}
 use Rattle.journal.specs.declared.state.Write.{Write}
 use Rattle.journal.specs.declared.state.Slot.{Slot}
 use Rattle.journal.specs.declared.state.Slot.TheVariants.{First, Second}
 use Rattle.journal.specs.declared.state.Journal.{Journal}
-use Rattle.recovery.proofs.Lasts.{last-append, last-named, last_other, named_or}
-use Rattle.recovery.proofs.Sound.{Sound, found_is}
-use Rattle.recovery.proofs.Scanning.{Ours, Whole, whole_found, scan_cong}
+use Rattle.recovery.proofs.Sound.{found_is}
+use Rattle.recovery.proofs.Scanning.{Ours, whole_found, scan_cong}
 use Rattle.recovery.proofs.Records.{writes_cong}
-use Rattle.recovery.proofs.Mixing.{number_in, writes_in, none_number, none-writes, whole-number, whole-count}
+use Rattle.recovery.proofs.Mixing.{number_in, writes_in, none-writes}
 use Rattle.recovery.proofs.Redoing.{slot_of, redo_few}
 
 -- what a sector may hold after a cut

@@ -1,13 +1,12 @@
 -- The journal keeps to the array, whatever happens: along every trace there is an array that is allowed to be seen so, and that the device and
 -- the memory hold.
-use Rattle.std.proofs.Common.{◌≡◌, ℕ, zero, suc, ◌+◌, ◌*◌, ◌<◌, ◌≤◌, Bool, true, false, cond, ◌&&◌, T, eqb, ltb, leb, ◌≢◌, ◌⊎◌, List, [], ◌∷◌, ◌++◌, length, sym, refl, ap, ◌∙◌, subst, inl, inr, add-one, arith, ltb-false, ltb-true}
-use Rattle.disks.specs.Device
-use Rattle.disks.specs.Device.{Device, blank_device, zeros, Io, answer, run, Ran, Upto, here, shown, latest, AfterCut, Event, called, cut_in, cut_between, cut_opening, World, off, on, Trace, begin, opened, opening_cut, answered, call_cut, between_cut, Allowed, at_start, was_lost, was_done, came_between, came_opening, all_bytes, then'}
+use Rattle.std.proofs.Common.{◌≡◌, ℕ, zero, suc, ◌+◌, ◌≤◌, Bool, true, false, cond, ◌&&◌, T, ltb, ◌⊎◌, List, ◌∷◌, ◌++◌, sym, refl, ap, ◌∙◌, subst, inl, inr, arith, ltb-false}
+use Rattle.disks.specs.Device.{Device, blank_device, zeros, answer, run, Ran, Upto, here, latest, AfterCut, Event, called, cut_in, cut_between, World, off, on, Trace, begin, opened, opening_cut, answered, call_cut, between_cut, Allowed, at_start, was_lost, was_done, came_between, came_opening, all_bytes, then'}
 use Rattle.compose.proofs.Compose.{run_then, upto_map}
 use Rattle.journal.specs.Format.{found}
 use Rattle.journal.specs.Scans.{scan_found, scanned}
 use Rattle.journal.specs.Programs.{in_area, allowed, open_io, get_io, put_io, Put', after_put}
-use Rattle.recovery.specs.Machines.{Call, Get, Put, Reply, Got', Done', No, got_reply, put_reply, whole_sectors, call_io, journal, Array, last, later, put_into, Answers, got, not_got, put, not_put, used-up, falls, array, JournalKeeps}
+use Rattle.recovery.specs.Machines.{Call, Get, Put, Reply, Done', No, got_reply, put_reply, whole_sectors, call_io, journal, Array, last, later, put_into, Answers, got, not_got, put, not_put, used-up, falls, array, JournalKeeps}
 use Rattle.journal.specs.declared.Place.{Place}
 use Rattle.journal.specs.declared.part.Found.TheVariants.{Blank}
 use Rattle.journal.specs.declared.state.Write.{Write}
@@ -18,9 +17,9 @@ use Rattle.journal.specs.declared.state.Opened.{Opened}
 use Rattle.journal.specs.declared.state.Opened.TheVariants.{Ready, Foreign}
 use Rattle.journal.specs.declared.state.Got.{Got}
 use Rattle.recovery.proofs.Sound.{found_blank}
-use Rattle.recovery.proofs.Mixing.{number_in, writes_in, none_number, none-writes}
+use Rattle.recovery.proofs.Mixing.{writes_in, none_number, none-writes}
 use Rattle.recovery.proofs.Redoing.{slot_of}
-use Rattle.recovery.proofs.Inv.{Off, Safe, On, ours_more, redone_one}
+use Rattle.recovery.proofs.Inv.{Off, On, ours_more}
 use Rattle.recovery.proofs.Cutting.{off_of, rest-cut}
 use Rattle.recovery.proofs.Opening.{opens, opens-cut}
 use Rattle.recovery.proofs.Calls.{get_run, get_refused, get_upto, put_refused, put-used-up, put_run, put-after, put-cut, put-still}

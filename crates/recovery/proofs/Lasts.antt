@@ -1,6 +1,6 @@
 -- What stands at a sector after writes: it depends on what stood there before only where no write names the sector.
-use Rattle.std.proofs.Common.{◌≡◌, ℕ, ◌<◌, ◌≤◌, Bool, true, false, cond, not, ◌&&◌, ◌||◌, T, eqb, ltb, leb, ◌⊎◌, List, [], ◌∷◌, ◌++◌, length, sym, refl, ap, ◌∙◌, subst, inl, inr, arith, ltb-true, eqb-true, leb-true}
-use Rattle.journal.specs.Programs.{named, all_in_area, in_area}
+use Rattle.std.proofs.Common.{◌≡◌, ℕ, ◌<◌, Bool, true, false, cond, ◌&&◌, ◌||◌, T, eqb, ltb, leb, ◌⊎◌, List, [], ◌∷◌, ◌++◌, sym, refl, ap, subst, inl, inr, arith, eqb-true, leb-true}
+use Rattle.journal.specs.Programs.{named, all_in_area}
 use Rattle.recovery.specs.Machines.{last}
 use Rattle.journal.specs.declared.state.Write.{Write}
 

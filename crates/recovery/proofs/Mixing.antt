@@ -1,18 +1,16 @@
 -- A slot into which a record was being written when the power failed: it has the new record whole, or the old one, or none. Each sector
 -- is as it was or as the new record has it; numbers are never used again, so sectors of two records are told apart.
-use Rattle.std.proofs.Common.{◌≡◌, ℕ, zero, suc, ◌+◌, ◌*◌, ◌/◌, ◌<◌, ◌≤◌, Bool, true, false, cond, ◌&&◌, T, eqb, leb, ◌≢◌, ◌⊎◌, List, [], ◌∷◌, ◌++◌, length, sym, refl, ap, ◌∙◌, subst, inl, inr, arith, eqb-true, le-leb}
+use Rattle.std.proofs.Common.{◌≡◌, ℕ, ◌*◌, ◌/◌, ◌<◌, ◌≤◌, Bool, true, false, T, eqb, ◌≢◌, ◌⊎◌, List, [], length, sym, refl, ap, ◌∙◌, subst, inl, inr, arith, eqb-true, le-leb}
 use borrow.Author.Tests.{eqb-false}
 use Rattle.journal.specs.Format.{found}
 use Rattle.journal.specs.Scans.{scanned, redo_number, redo_count, writes_from}
 use Rattle.journal.specs.Programs.{record_sector, all_in_area}
 use Rattle.recovery.specs.Machines.{whole_sectors}
 use Rattle.journal.specs.declared.part.Part.{Part}
-use Rattle.journal.specs.declared.part.Found.{Found}
-use Rattle.journal.specs.declared.part.Found.TheVariants.{Blank, Part as IsPart, Foreign}
-use Rattle.journal.specs.declared.scan.Scan.{Scan}
+use Rattle.journal.specs.declared.part.Found.TheVariants.{Part as IsPart}
 use Rattle.journal.specs.declared.state.Write.{Write}
 use Rattle.recovery.proofs.Records.{part, sector_found, writes_back, writes_cong}
-use Rattle.recovery.proofs.Scanning.{Ours, Has, Whole, found_whole, whole_found, Holding}
+use Rattle.recovery.proofs.Scanning.{Ours, Has, Whole, found_whole, whole_found}
 
 -- the number and the writes of the record that a slot would have done again
 abbrev pub number_in : ℕ → (ℕ → List ℕ) → ℕ

@@ -1,29 +1,29 @@
 -- Opening: from a device with the power off it leaves the journal on, with the same array; cut anywhere, it leaves a device from which it can
 -- be opened again, with the same array.
-use Rattle.std.proofs.Common.{◌≡◌, ℕ, zero, suc, ◌+◌, ◌*◌, ◌<◌, ◌≤◌, Bool, true, false, cond, ◌&&◌, ◌||◌, T, eqb, ltb, leb, ◌≢◌, ◌⊎◌, List, [], ◌∷◌, ◌++◌, length, sym, refl, ap, ◌∙◌, subst, inl, inr, arith, ltb-false, ltb-true, lt-ltb, eqb-true}
+use Rattle.std.proofs.Common.{◌≡◌, ℕ, ◌+◌, ◌<◌, ◌≤◌, Bool, true, false, ◌&&◌, ◌||◌, T, eqb, ltb, ◌⊎◌, List, [], ◌∷◌, ◌++◌, sym, refl, ap, ◌∙◌, subst, inl, inr, arith, ltb-false, ltb-true, lt-ltb, eqb-true}
 use borrow.Author.Tests.{eqb-false}
 use Rattle.disks.specs.Device.{Device, Io, answer, run, Ran, Upto, here, shown, latest, synced, then', AfterCut}
 use Rattle.compose.proofs.Compose.{run_then, upto_then, upto_map}
-use Rattle.journal.specs.Scans.{scan_start, scanned, higher, redo_number}
-use Rattle.journal.specs.Programs.{base, other, in_area, named, write_all_io, scan_io, redo_io, recover_io, open_io, ready, above}
+use Rattle.journal.specs.Scans.{scan_start, scanned, higher}
+use Rattle.journal.specs.Programs.{base, other, in_area, named, write_all_io, scan_io, redo_io, recover_io, open_io, ready}
 use Rattle.recovery.specs.Machines.{last}
 use Rattle.journal.specs.Format.{found}
 use Rattle.journal.specs.declared.part.Part.{Part}
-use Rattle.journal.specs.declared.part.Found.TheVariants.{Blank, Part as IsPart}
+use Rattle.journal.specs.declared.part.Found.TheVariants.{Part as IsPart}
 use Rattle.journal.specs.declared.scan.Scan.{Scan}
 use Rattle.journal.specs.declared.state.Write.{Write}
 use Rattle.journal.specs.declared.state.Slot.{Slot}
 use Rattle.journal.specs.declared.state.Slot.TheVariants.{First, Second}
 use Rattle.journal.specs.declared.state.Journal.{Journal}
 use Rattle.journal.specs.declared.state.Opened.{Opened}
-use Rattle.journal.specs.declared.state.Opened.TheVariants.{Ready, Foreign}
+use Rattle.journal.specs.declared.state.Opened.TheVariants.{Ready}
 use Rattle.recovery.proofs.Lasts.{last-append, last-again, last_same, below-area}
-use Rattle.recovery.proofs.Writing.{Alike, alike_shown, upto_other, all_upto, all_shown}
+use Rattle.recovery.proofs.Writing.{alike_shown, upto_other, all_upto, all_shown}
 use Rattle.recovery.proofs.Sound.{found_is}
 use Rattle.recovery.proofs.Scanning.{Ours, seen, high_left, high_right, high_most}
 use Rattle.recovery.proofs.Mixing.{number_in, writes_in}
 use Rattle.recovery.proofs.Redoing.{slot_of, scan_run, scan_upto, redone, all_done, redo_run, redo_upto, found_in_area}
-use Rattle.recovery.proofs.Inv.{Can, IsSector, redone_with, Off, Safe, On, other_other, ours_more, number_cong, writes_in_cong, redone-by, redone_one, no_writes, can-cut, can-quiet}
+use Rattle.recovery.proofs.Inv.{Can, IsSector, redone_with, Off, On, ours_more, writes_in_cong, redone-by, can-cut, can-quiet}
 use Rattle.recovery.proofs.Cutting.{Order, per_slot, off_of, order_cong, both_cong, rest-cut}
 
 -- writes of both slots stay in the guarded area

@@ -1,16 +1,14 @@
 -- A record in a slot: each of its sectors is found as its part, and read back it is the writes that it was made of.
-use Rattle.std.proofs.Common.{◌≡◌, ℕ, zero, suc, ◌+◌, ◌*◌, ◌/◌, ◌%◌, ◌<◌, ◌≤◌, Bool, true, false, cond, ◌&&◌, ◌||◌, T, eqb, ltb, leb, ◌≢◌, ◌⊎◌, List, [], ◌∷◌, ◌++◌, length, get_or, take, drop, sym, refl, ap, ◌∙◌, subst, inl, inr, add-zero, add-one, arith, ltb→lt, length-drop, take-append-drop, length-take, drop-cons, ltb-true, eq-eqb, ne_eqb, eqb-true, leb-true}
+use Rattle.std.proofs.Common.{◌≡◌, ℕ, zero, suc, ◌+◌, ◌*◌, ◌/◌, ◌%◌, ◌<◌, ◌≤◌, Bool, true, false, cond, ◌&&◌, T, eqb, ltb, leb, ◌≢◌, ◌⊎◌, List, [], ◌∷◌, ◌++◌, length, get_or, take, drop, sym, refl, ap, ◌∙◌, inl, inr, add-one, arith, length-drop, take-append-drop, length-take, drop-cons, ltb-true, ne_eqb, eqb-true, leb-true}
 use borrow.Author.Tests.{eqb-false}
 use Rattle.std.proofs.lemmas.List.{drop_all}
 use Rattle.disks.specs.Device.{all_bytes}
-use Rattle.journal.specs.Format.{part_bytes, part_of, half_of, found}
+use Rattle.journal.specs.Format.{part_of, half_of, found}
 use Rattle.journal.specs.Scans.{write_at, writes_from}
-use Rattle.journal.specs.Programs.{no_write, half_at, record_sector, record_from, named, all_in_area, in_area}
+use Rattle.journal.specs.Programs.{no_write, half_at, record_sector, record_from, named, all_in_area}
 use Rattle.recovery.specs.Machines.{whole_sectors, last}
-use Rattle.journal.specs.declared.Place.{Place}
 use Rattle.journal.specs.declared.part.Part.{Part}
-use Rattle.journal.specs.declared.part.Found.{Found}
-use Rattle.journal.specs.declared.part.Found.TheVariants.{Blank, Part as IsPart, Foreign}
+use Rattle.journal.specs.declared.part.Found.TheVariants.{Part as IsPart}
 use Rattle.journal.specs.declared.state.Write.{Write}
 use Rattle.octets.proofs.Fields.{bytes_take, bytes_drop}
 use Rattle.recovery.proofs.Sound.{Sound, part_back, found_part, half_back, length_part, bytes-part}

@@ -1,23 +1,20 @@
 -- Opening: scans only read, and doing a record again writes its sectors in place, as the record's writes would.
-use Rattle.std.proofs.Common.{◌≡◌, ℕ, zero, suc, ◌+◌, ◌*◌, ◌/◌, ◌<◌, ◌≤◌, Bool, true, false, cond, ◌&&◌, T, eqb, ltb, leb, ◌≢◌, ◌⊎◌, List, [], ◌∷◌, ◌++◌, length, sym, refl, ap, ◌∙◌, subst, inl, inr, add-zero, zero-add, add-one, arith, le→leb, lt→ltb, ne_eqb, eqb-true, le-leb, leb-true}
-use borrow.Author.Tests.{eqb-false}
-use Rattle.disks.specs.Device.{Device, Io, answer, read, write, sync, run, Ran, Upto, here, reads, writes, syncs, shown, written, synced, then'}
+use Rattle.std.proofs.Common.{◌≡◌, ℕ, zero, suc, ◌+◌, ◌*◌, ◌/◌, ◌<◌, ◌≤◌, Bool, true, false, cond, ◌&&◌, T, ltb, leb, ◌≢◌, ◌⊎◌, List, [], ◌∷◌, ◌++◌, sym, refl, ap, ◌∙◌, subst, inl, inr, add-zero, add-one, arith, le→leb, lt→ltb, ne_eqb, leb-true}
+use Rattle.disks.specs.Device.{Device, Io, answer, sync, run, Ran, Upto, here, reads, writes, syncs, shown, written, synced, then'}
 use Rattle.compose.proofs.Compose.{run_then, upto_then}
-use Rattle.journal.specs.Format.{found, part_of, half_of, slot_sectors}
-use Rattle.journal.specs.Scans.{scan_start, scan_next, scanned, redo_number, redo_count, write_at, writes_from}
-use Rattle.journal.specs.Programs.{base, other, write_all_io, named, all_in_area, scan_from, scan_io, replay_from, redo_io}
-use Rattle.recovery.specs.Machines.{last}
+use Rattle.journal.specs.Format.{part_of, half_of}
+use Rattle.journal.specs.Scans.{scan_next, scanned, redo_count, write_at, writes_from}
+use Rattle.journal.specs.Programs.{base, other, write_all_io, all_in_area, scan_from, replay_from, redo_io}
 use Rattle.journal.specs.declared.part.Part.{Part}
-use Rattle.journal.specs.declared.part.Found.TheVariants.{Blank, Part as IsPart, Foreign}
 use Rattle.journal.specs.declared.scan.Scan.{Scan}
 use Rattle.journal.specs.declared.state.Write.{Write}
 use Rattle.journal.specs.declared.state.Slot.{Slot}
 use Rattle.journal.specs.declared.state.Slot.TheVariants.{First, Second}
 use Rattle.recovery.proofs.Lasts.{below-area}
-use Rattle.recovery.proofs.Writing.{Alike, alike_shown, upto_other, all_upto, written_other}
+use Rattle.recovery.proofs.Writing.{alike_shown, upto_other, all_upto, written_other}
 use Rattle.recovery.proofs.Sound.{found_is}
 use Rattle.recovery.proofs.Scanning.{Ours, Whole, whole_found}
-use Rattle.recovery.proofs.Mixing.{writes_in, number_in, none-writes, whole-count}
+use Rattle.recovery.proofs.Mixing.{writes_in, none-writes, whole-count}
 
 -- SCANS
 pub scan_run : (size at : ℕ) (d : Device) (i k : ℕ) → run (scan_from size at i k (scanned size (λ q. shown d (at + q)) i)) d ≡ record { value = scanned size (λ q. shown d (at + q)) (i + k); device = d }

@@ -1,14 +1,13 @@
 -- What a scan of a slot comes to: it finds a record exactly where each of the record's sectors carries its number and length.
-use Rattle.std.proofs.Common.{◌≡◌, ℕ, zero, suc, ◌+◌, ◌*◌, ◌/◌, ◌%◌, ◌<◌, ◌≤◌, Bool, true, false, cond, ◌&&◌, ◌||◌, T, eqb, ltb, leb, ◌≢◌, ◌⊎◌, List, [], ◌∷◌, ◌++◌, sym, refl, ap, ◌∙◌, subst, inl, inr, arith, ltb-false, ltb-true, eq-eqb, ne_eqb, eqb-true, le-leb, leb-false, leb-true}
+use Rattle.std.proofs.Common.{◌≡◌, ℕ, zero, suc, ◌<◌, ◌≤◌, Bool, true, false, cond, ◌&&◌, ◌||◌, T, eqb, ltb, leb, ◌≢◌, ◌⊎◌, List, sym, refl, ap, ◌∙◌, subst, inl, inr, arith, ltb-false, ltb-true, eq-eqb, ne_eqb, eqb-true, le-leb, leb-false, leb-true}
 use borrow.Author.Tests.{eqb-false}
 use Rattle.journal.specs.Format.{found}
-use Rattle.journal.specs.Scans.{scan_start, higher, scan_part, scan_found, scanned, redo_number, redo_count, writes_from}
+use Rattle.journal.specs.Scans.{scan_start, higher, scan_part, scan_found, scanned}
 use Rattle.journal.specs.declared.part.Part.{Part}
 use Rattle.journal.specs.declared.part.Found.{Found}
 use Rattle.journal.specs.declared.part.Found.TheVariants.{Blank, Part as IsPart, Foreign}
 use Rattle.journal.specs.declared.scan.Scan.{Scan}
-use Rattle.journal.specs.declared.state.Write.{Write}
-use Rattle.recovery.proofs.Sound.{Sound, found_is}
+use Rattle.recovery.proofs.Sound.{found_is}
 
 -- a sector is blank, or a part of a record whose number is no higher than this
 abbrev pub Ours : (size most i : ℕ) → List ℕ → Type 0

@@ -1,14 +1,12 @@
 -- What a sector of the journal is found to be: blank sectors and parts of records as they were written.
-use Rattle.std.proofs.Common.{◌≡◌, ℕ, zero, suc, ◌+◌, ◌*◌, ◌/◌, ◌%◌, ◌^◌, ◌<◌, ◌≤◌, Bool, true, false, cond, ◌&&◌, T, eqb, ltb, leb, ◌⊎◌, List, [], ◌∷◌, ◌++◌, length, get_or, take, drop, replicate, sym, refl, ap, ◌∙◌, subst, inl, inr, append_assoc, arith, length-append, ltb-true, lt-ltb, eq-eqb, eqb-true, le-leb, leb-true}
-use Rattle.std.proofs.lemmas.List.{take_at, drop_at, drop-drop}
+use Rattle.std.proofs.Common.{◌≡◌, ℕ, zero, suc, ◌/◌, ◌%◌, ◌^◌, ◌<◌, ◌≤◌, Bool, true, false, cond, ◌&&◌, T, eqb, ltb, leb, List, [], ◌∷◌, ◌++◌, length, get_or, take, replicate, sym, refl, ap, ◌∙◌, subst, arith, length-append, ltb-true, lt-ltb, eq-eqb, eqb-true, le-leb, leb-true}
+use Rattle.std.proofs.lemmas.List.{take_at, drop_at}
 use Rattle.disks.specs.Device.{zeros, all_bytes}
 use Rattle.octets.specs.Numbers.{field, numbers_bytes, small, bytes_of}
-use Rattle.octets.proofs.Numbers.{length-bytes_of, join}
+use Rattle.octets.proofs.Numbers.{join}
 use Rattle.octets.proofs.Fields.{field_at, length-numbers}
 use Rattle.journal.specs.Format.{mark, slot_sectors, guarded, numbers_end, part_bytes, part_of, half_of, is_sound, found}
-use Rattle.journal.specs.declared.Place.{Place}
 use Rattle.journal.specs.declared.part.Part.{Part}
-use Rattle.journal.specs.declared.part.Found.{Found}
 use Rattle.journal.specs.declared.part.Found.TheVariants.{Blank, Part as IsPart, Foreign}
 
 pub found_blank : (size i : ℕ) → found size i (zeros 512) ≡ Blank

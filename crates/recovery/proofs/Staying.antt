@@ -1,19 +1,17 @@
 -- The journal asks only for sectors of its device, and writes only whole sectors of bytes.
-use Rattle.std.proofs.Common.{◌≡◌, ℕ, zero, suc, ◌+◌, ◌*◌, ◌<◌, ◌≤◌, Bool, true, false, cond, ◌&&◌, T, eqb, ltb, leb, ◌≢◌, ◌⊎◌, List, [], ◌∷◌, ◌++◌, length, take, drop, sym, refl, ap, ◌∙◌, subst, inl, inr, arith, ltb→lt, length-append, length-drop, length-take, ltb-true, eqb-true, leb-true}
+use Rattle.std.proofs.Common.{◌≡◌, ℕ, zero, suc, ◌+◌, ◌*◌, ◌<◌, ◌≤◌, Bool, true, false, cond, ◌&&◌, T, eqb, ltb, leb, List, [], ◌∷◌, ◌++◌, length, drop, sym, refl, ◌∙◌, subst, arith, ltb→lt, length-append, length-drop, length-take, ltb-true, eqb-true}
 use Rattle.disks.specs.Device
 use Rattle.disks.specs.Device.{Device, Io, answer, read, write, sync, run, Ran, Fair, shown, written, synced, then', Event, World, off, on, Trace, all_bytes}
 use Rattle.compose.proofs.Inside.{fair_then}
-use Rattle.compose.proofs.Compose.{run_then}
 use Rattle.octets.proofs.Fields.{bytes_take, bytes_drop}
 use Rattle.journal.specs.Format.{part_of, half_of}
 use Rattle.journal.specs.Scans.{scan_start, scan_next, scanned, redo_count, write_at, writes_from}
 use Rattle.journal.specs.Programs.{base, other, in_area, all_in_area, allowed, write_all_io, record_from, record_of, transact_io, put_io, Put', get_io, after_put, scan_from, scan_io, replay_from, redo_io, recover_io, open_io, ready}
-use Rattle.recovery.specs.Machines.{Call, Get, Put, Reply, No, put_reply, whole_sectors, call_io, journal, Array, array, JournalWithin}
+use Rattle.recovery.specs.Machines.{Call, Get, Put, Reply, No, put_reply, whole_sectors, call_io, Array, array, JournalWithin}
 use Rattle.journal.specs.declared.state.Refused.TheVariants.{OutOfRange, NumbersUsedUp}
 use Rattle.journal.specs.declared.state.Outcome.TheVariants.{Done, Refused}
 use Rattle.journal.specs.declared.state.Got.TheVariants.{Sector, Refused as GotRefused}
 use Rattle.journal.specs.declared.Place.{Place}
-use Rattle.journal.specs.declared.part.Part.{Part}
 use Rattle.journal.specs.declared.scan.Scan.{Scan}
 use Rattle.journal.specs.declared.state.Write.{Write}
 use Rattle.journal.specs.declared.state.Slot.{Slot}
@@ -25,9 +23,9 @@ use Rattle.recovery.proofs.Sound.{bytes-append}
 use Rattle.recovery.proofs.Records.{sector-bytes}
 use Rattle.recovery.proofs.Redoing.{slot_of, found_in_area, redo_few, one_run, same_after, apart_from, further}
 use Rattle.recovery.proofs.Mixing.{writes_in}
-use Rattle.recovery.proofs.Inv.{IsSector, Off, Safe, On}
+use Rattle.recovery.proofs.Inv.{IsSector, Off, On}
 use Rattle.recovery.proofs.Opening.{scan_is, recover_is, which}
-use Rattle.recovery.proofs.Calls.{Fine, fine}
+use Rattle.recovery.proofs.Calls.{fine}
 use Rattle.recovery.proofs.Keeping.{held, Inv}
 
 both : (a b : Bool) → T (a && b) → T a × T b

@@ -1,9 +1,8 @@
 -- Sectors written one after the other: what the device shows then, and what it may hold where the writing is cut.
-use Rattle.std.proofs.Common.{◌≡◌, ℕ, Bool, true, false, cond, ◌||◌, T, eqb, ◌⊎◌, List, [], ◌∷◌, ◌++◌, sym, refl, ap, ◌∙◌, subst, inl, inr, eqb-true}
+use Rattle.std.proofs.Common.{◌≡◌, ℕ, Bool, true, false, cond, ◌||◌, T, eqb, ◌⊎◌, List, [], ◌∷◌, sym, refl, ap, ◌∙◌, subst, inl, inr, eqb-true}
 use mathlib.Core.List.Memᴰ
 use mathlib.Core.List.{Memᴰ}
-use borrow.Author.Tests.{eqb-false}
-use Rattle.disks.specs.Device.{Device, Io, answer, read, write, sync, run, Upto, here, reads, writes, syncs, shown, latest, written, synced}
+use Rattle.disks.specs.Device.{Device, run, Upto, here, writes, shown, latest, written}
 use Rattle.journal.specs.Programs.{named, write_all_io}
 use Rattle.recovery.specs.Machines.{last}
 use Rattle.journal.specs.declared.state.Write.{Write}

@@ -9,7 +9,6 @@ use Rattle.journal.specs.declared.part.Found.TheVariants.{Foreign as IsForeign}
 use Rattle.journal.specs.declared.state.Write.{Write}
 use Rattle.journal.specs.declared.state.Slot.{Slot}
 use Rattle.journal.specs.declared.state.Journal.{Journal}
-use Rattle.journal.specs.declared.state.Opened.{Opened}
 use Rattle.journal.specs.declared.state.Opened.TheVariants.{Ready, Foreign}
 
 -- the requests of a program, each read counted as r, each write as w, each sync as s

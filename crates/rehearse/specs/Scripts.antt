@@ -1,6 +1,6 @@
 -- What a script's step may be.
 -- Assumes nothing.
-use Rattle.std.specs.Prelude.{ℕ, ◌≤◌}
+use Rattle.std.specs.Prelude.{◌≤◌}
 use Rattle.rehearse.specs.declared.script.Step.{Step}
 use Rattle.rehearse.specs.declared.script.Step.TheVariants.{Houses, At, Network, Nothing}
 

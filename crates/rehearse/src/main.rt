@@ -3,8 +3,8 @@
 
 mod script;
 
-use octets::SECTOR_BYTES;
 use lines::hex;
+use octets::SECTOR_BYTES;
 use place::one_place::OnePlace;
 use script::{LEAST_HOUSES, LEAST_SECTORS, ScriptError, Step, parse};
 use std::io;

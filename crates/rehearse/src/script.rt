@@ -2,10 +2,10 @@
 ghost use Rattle.std.specs.Prelude.{IfOk};
 ghost use Rattle.rehearse.specs.Scripts.{InRange};
 
-use octets::SECTOR_BYTES;
-use octets::writer::{message, put_number};
 use lines::decimal::decimal;
 use lines::hex;
+use octets::SECTOR_BYTES;
+use octets::writer::{message, put_number};
 use std::alloc::{AllocError, AllocFailed, Global};
 use std::str::SplitWhitespace;
 use wire::kind::Kind;

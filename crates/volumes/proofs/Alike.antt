@@ -1,15 +1,14 @@
 -- The service is the meaning. Both go through the same tests, so it is enough to relate what stands at the end of each way: an answer that
 -- is the same with states that are the same, or full, where the meaning would weigh more than before and more than the room.
-use Rattle.std.proofs.Common.{◌≡◌, ℕ, zero, suc, ◌+◌, ◌-◌, ◌<◌, ◌≤◌, Bool, true, false, cond, not, ◌&&◌, ◌||◌, T, eqb, ltb, leb, ◌≢◌, ◌⊎◌, List, [], ◌∷◌, ◌++◌, length, sym, refl, ap, ◌∙◌, subst, ap₂, inl, inr, arith, eq-eqb, ne_eqb, eqb-true}
-use borrow.Author.Tests.{eqb-false}
+use Rattle.std.proofs.Common.{◌≡◌, ℕ, ◌+◌, ◌-◌, ◌<◌, ◌≤◌, Bool, true, false, cond, not, ◌&&◌, ◌||◌, T, eqb, ltb, leb, ◌≢◌, ◌⊎◌, List, [], ◌∷◌, ◌++◌, length, sym, refl, ap, ◌∙◌, subst, ap₂, inl, inr, arith, eq-eqb, ne_eqb, eqb-true}
 use Rattle.std.proofs.lemmas.Bool.Decides.{nat_tests}
-use Rattle.disks.specs.Device.{Device, zeros, shown, written, synced, latest, all_bytes}
-use Rattle.disks.specs.Disks.{Volume, State, blank, keep, find, change, Call, Make, Attach, Read, Write, Sync, Picture', Copy, Drop, DropPicture, Reply, No, Yes, Num, Token, Sector, Full, Out, no, is_volume, with_volumes, with_disk, in_volume, device_of, makes, attaches, holding, inside, does, one, all_zero, used, volumes_used, pictures_used, weight, Answers, says_so, not_yet, full, core}
+use Rattle.disks.specs.Device.{zeros, shown, written, synced, latest, all_bytes}
+use Rattle.disks.specs.Disks.{Volume, State, find, change, Call, Make, Attach, Read, Write, Sync, Picture', Copy, Drop, DropPicture, Reply, No, Yes, Num, Token, Sector, Full, Out, no, is_volume, with_disk, in_volume, device_of, attaches, holding, inside, does, one, all_zero, used, pictures_used, weight, Answers, says_so, not_yet, full, core}
 use Rattle.volumes.specs.declared.head.Head.{Head}
 use Rattle.volumes.specs.Weights.{weighs}
-use Rattle.volumes.specs.Service.{Service, Changed, keeps, puts, forgets, Served, says, is_head, without, with_token, with_used, new_head, recount, makes_head, attaches_head, held, within, writes_head, drops_head, lacks_call, serves}
-use Rattle.volumes.specs.Simulation.{needed, Sectors, Store, blank_store, read_at, changed_by, served_at, store_after, SameVolume, SameVolumes, none, both, Rising, Same, WholeSector, StepsAlike, ServesTheMeaning}
-use Rattle.volumes.proofs.Counts.{used-blank, used_same, shown_written, recounted, cond_other}
+use Rattle.volumes.specs.Service.{keeps, puts, forgets, Served, says, is_head, with_token, with_used, new_head, recount, makes_head, attaches_head, held, within, writes_head, drops_head, serves}
+use Rattle.volumes.specs.Simulation.{Sectors, Store, changed_by, served_at, store_after, SameVolume, SameVolumes, none, both, Same, WholeSector, ServesTheMeaning}
+use Rattle.volumes.proofs.Counts.{used-blank, shown_written, recounted, cond_other}
 use Rattle.volumes.proofs.Lists.{same_length, same_weight, same_found, same_changed, same_dropped, same_pushed, rising_pushed, rising-changed, rising_kept, rising-below, found_one}
 use Rattle.volumes.proofs.Weighing.{weighs_push, weighs-changed, weighs-without}
 

@@ -1,6 +1,5 @@
 -- The loop that looks for the first element that passes a test: after i that don't, what is left to look through is what is behind them.
-use Rattle.std.proofs.Common.{◌≡◌, ℕ, suc, ◌+◌, ◌<◌, ◌≤◌, Bool, true, false, cond, List, [], ◌∷◌, ◌++◌, length, get_or, take, drop, set, sym, refl, ap, ◌∙◌, append_assoc, add-one}
-use Rattle.std.specs.List.{remove}
+use Rattle.std.proofs.Common.{◌≡◌, ℕ, ◌+◌, ◌<◌, ◌≤◌, Bool, true, false, List, [], ◌∷◌, ◌++◌, length, get_or, take, drop, sym, refl, ap, ◌∙◌, append_assoc, add-one}
 use Rattle.std.proofs.lemmas.List.{take_more, drop_more, drop_all, set_split, get_or_default}
 use Rattle.disks.specs.Disks.{find, change}
 use Rattle.volumes.specs.Service.{without, First}

@@ -1,8 +1,7 @@
 -- Related lists of volumes and heads: what is found, changed, added and taken out stays related. Numbers rise, so one number is one volume's.
-use Rattle.std.proofs.Common.{◌≡◌, ℕ, zero, suc, ◌+◌, ◌<◌, ◌≤◌, Bool, true, false, cond, not, eqb, ◌≢◌, List, [], ◌∷◌, ◌++◌, length, sym, refl, ap, ◌∙◌, subst, arith, eqb-true}
+use Rattle.std.proofs.Common.{◌≡◌, ℕ, suc, ◌+◌, ◌<◌, ◌≤◌, Bool, true, false, cond, not, eqb, ◌≢◌, List, [], ◌∷◌, ◌++◌, length, sym, refl, ap, ◌∙◌, subst, arith, eqb-true}
 use borrow.Author.Tests.{eqb-false}
-use Rattle.disks.specs.Device.{shown}
-use Rattle.disks.specs.Disks.{Volume, find, change, keep, is_volume, used, volumes_used}
+use Rattle.disks.specs.Disks.{Volume, find, change, keep, is_volume, volumes_used}
 use Rattle.volumes.specs.declared.head.Head.{Head}
 use Rattle.volumes.specs.Weights.{weighs}
 use Rattle.volumes.specs.Service.{is_head, without}

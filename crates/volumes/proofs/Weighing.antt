@@ -1,5 +1,5 @@
 -- What heads weigh when one is added, changed or taken out.
-use Rattle.std.proofs.Common.{◌≡◌, ℕ, zero, suc, ◌+◌, ◌-◌, ◌<◌, ◌≤◌, Bool, true, false, cond, not, ◌&&◌, eqb, ltb, List, [], ◌∷◌, ◌++◌, length, get_or, set, sym, refl, ap, ◌∙◌, subst, arith}
+use Rattle.std.proofs.Common.{◌≡◌, ℕ, zero, suc, ◌+◌, ◌-◌, ◌<◌, ◌≤◌, Bool, true, false, cond, not, ◌&&◌, eqb, ltb, List, [], ◌∷◌, ◌++◌, length, get_or, set, ap, subst, arith}
 use Rattle.std.specs.List.{remove}
 use Rattle.volumes.specs.declared.head.Head.{Head}
 use Rattle.std.proofs.lemmas.Bool.Decides.{nat_tests}

@@ -1,6 +1,6 @@
 -- What each call answers and changes, over heads; sectors are handed in and out. Refusals are tested in the order of the meaning.
 -- Assumes nothing.
-use Rattle.std.specs.Prelude.{◌≡◌, ℕ, ◌+◌, ◌-◌, ◌<◌, Bool, true, false, cond, not, ◌&&◌, ◌||◌, List, [], ◌∷◌, ◌++◌, length, vec_items, ◌==◌, nat_le, nat_lt, slice_index_or, slice_set}
+use Rattle.std.specs.Prelude.{◌≡◌, ℕ, ◌+◌, ◌-◌, ◌<◌, Bool, cond, not, ◌&&◌, ◌||◌, List, [], ◌∷◌, ◌++◌, length, vec_items, ◌==◌, nat_le, nat_lt, slice_index_or, slice_set}
 use Rattle.disks.specs.Disks.{find, change, all_zero, one, Call, Make, Attach, Read, Write, Sync, Picture', Copy, Drop, DropPicture, Reply, No, Yes, Num, Token, Sector, Full}
 use Rattle.std.specs.List.{remove}
 use Rattle.wire.specs.Answers.{the_reply}

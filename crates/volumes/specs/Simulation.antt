@@ -2,7 +2,7 @@
 -- Assumes nothing.
 use Rattle.std.specs.Prelude.{◌≡◌, ℕ, suc, ◌-◌, ◌/◌, ◌≤◌, cond, ◌&&◌, T, List, [], ◌∷◌, length, Some, None, Option, ◌==◌}
 use Rattle.disks.specs.Device.{zeros, shown, all_bytes}
-use Rattle.disks.specs.Disks.{Volume, State, blank, used, Call, Make, Attach, Read, Write, Sync, Picture', Copy, Drop, DropPicture, Reply, Answers, core}
+use Rattle.disks.specs.Disks.{Volume, State, blank, used, Call, Make, Attach, Read, Write, Sync, Picture', Copy, Drop, DropPicture, Answers, core}
 use Rattle.disks.specs.Promise.{core_room}
 use Rattle.wire.specs.declared.number.Volume.{Volume as Number}
 use Rattle.wire.specs.declared.number.Sector.{Sector}

@@ -1,5 +1,5 @@
 -- Answers as bytes and back: each case by itself, its numbers by the laws of fields.
-use Rattle.std.proofs.Common.{◌≡◌, ℕ, zero, suc, ◌<◌, Bool, true, false, cond, T, eqb, List, [], ◌∷◌, ◌++◌, length, get_or, drop, is_some, Some, None, Option, sym, refl, ap, ◌∙◌, subst, append-nil, arith, eqb→eq}
+use Rattle.std.proofs.Common.{◌≡◌, ℕ, zero, suc, ◌<◌, Bool, true, false, cond, T, eqb, List, [], ◌∷◌, length, get_or, is_some, Some, None, Option, sym, refl, ap, ◌∙◌, subst, append-nil, arith, eqb→eq}
 use Rattle.std.proofs.lemmas.List.{nil_from_length}
 use Rattle.std.proofs.lemmas.Bool.Decides.{nat_tests}
 use Rattle.std.specs.Option.{option_map}
@@ -8,10 +8,10 @@ use Rattle.disks.specs.Disks.{Reply, No, Yes, Num, Token, Sector, Full}
 use Rattle.wire.specs.declared.refusal.Refusal.{Refusal}
 use Rattle.octets.specs.Numbers.{field, numbers_bytes, small}
 use Rattle.wire.specs.Refusals.{refusal_number, refusal_of}
-use Rattle.wire.specs.Answers.{answer_bytes, answered_by, answered_as, refused_by, of_length}
+use Rattle.wire.specs.Answers.{answer_bytes, answered_as, refused_by, of_length}
 use Rattle.wire.specs.Promises.{Said, AnswerRoundTrip, AnswerOneSpelling, AnswerBytesSound}
 use Rattle.octets.proofs.Numbers.{first_byte}
-use Rattle.octets.proofs.Fields.{length-numbers, field_at, fields, fields_spell, fields-small, exact}
+use Rattle.octets.proofs.Fields.{length-numbers, field_at, fields-small, exact}
 
 -- the number of a refusal that was found is the number that it was found by
 number_back : (n : ℕ) (e : Refusal) → refusal_of n ≡ Some e → refusal_number e ≡ n

@@ -1,19 +1,19 @@
 -- Calls as bytes and back. The fields of a call's bytes are its numbers, so parsing what a call encodes to gives the call; and
 -- numbers that were read off bytes spell those bytes, so what parses encodes to the same bytes. A refusal by 1 is then of bytes
 -- that no call has, since decoding a call's bytes gives the call or 12.
-use Rattle.std.proofs.Common.{◌≡◌, ℕ, ◌+◌, ◌*◌, ◌<◌, ◌≤◌, Bool, true, false, cond, T, eqb, ◌⊎◌, List, [], ◌∷◌, ◌++◌, length, get_or, drop, Some, None, Option, sym, refl, ap, ◌∙◌, subst, inl, inr, append-nil, arith, eqb→eq, length-append, length-drop}
+use Rattle.std.proofs.Common.{◌≡◌, ℕ, Bool, true, false, cond, T, eqb, ◌⊎◌, List, [], ◌∷◌, ◌++◌, length, drop, Some, None, Option, sym, refl, ap, ◌∙◌, subst, inl, inr, arith, eqb→eq, length-append, length-drop}
 use Rattle.std.proofs.lemmas.List.{drop_at}
 use Rattle.std.proofs.lemmas.Bool.Decides.{nat_tests}
 use Rattle.disks.specs.Device.{all_bytes}
 use Rattle.disks.specs.Disks.{Call, Make, Attach, Read, Write, Sync, Picture', Copy, Drop, DropPicture, core}
 use Rattle.wire.specs.declared.kind.Kind.{Kind}
 use Rattle.wire.specs.declared.kind.Kind.TheVariants as kinds
-use Rattle.octets.specs.Numbers.{field, numbers_bytes, small}
-use Rattle.wire.specs.Kinds.{number_of, kind_of, kind_in, is_built}
+use Rattle.octets.specs.Numbers.{numbers_bytes, small}
+use Rattle.wire.specs.Kinds.{number_of, kind_of, kind_in}
 use Rattle.wire.specs.Calls.{kind_for, numbers_in, content_of, call_bytes, length_for, call_of, parsed_as, Decoded, is_call, is_refused, or_malformed, decoded_as, decoded}
 use Rattle.wire.specs.Promises.{Spelled, RoundTrip, OneSpelling, Refuses, BuiltIsCore, CallBytesSound}
 use Rattle.octets.proofs.Numbers.{first_byte}
-use Rattle.octets.proofs.Fields.{length-numbers, field_at, fields, fields_spell, fields-small, exact}
+use Rattle.octets.proofs.Fields.{length-numbers, field_at, fields_spell, fields-small, exact}
 
 -- what follows the kind
 abbrev tail : Call → List ℕ

@@ -1,4 +1,4 @@
-use Rattle.std.proofs.Common.{◌≡◌, ◌+◌, ◌*◌, ◌<◌, ◌≤◌, length, drop, Some, None, vec_items, sym, ap, ◌∙◌, arith, rules}
+use Rattle.std.proofs.Common.{◌+◌, ◌*◌, drop, Some, None, vec_items, sym, ap, ◌∙◌, arith}
 use Rattle.lines.specs.Hexes.{bytes_in}
 use Rattle.lines.proofs.Steps.{behind, byte_more, behind-none, behind_more, behind_all, odd_none}
 use Rattle.lines.proofs.hex.decode.Goals as goal

@@ -1,6 +1,5 @@
-use Rattle.std.proofs.Common.{◌≡◌, List, vec_items, sym, ap, ◌∙◌, rules}
+use Rattle.std.proofs.Common.{vec_items, sym, ap, ◌∙◌}
 use Rattle.disks.specs.Device.{zeros}
-use Rattle.place.specs.declared.kept.Kept.{Kept}
 use Rattle.place.specs.declared.kept.Kept.TheVariants as typed
 use Rattle.volumes.specs.declared.outcome.Change.{Change}
 use Rattle.volumes.specs.Service.{the_change}

@@ -1,9 +1,9 @@
-use Rattle.std.proofs.Common.{◌≡◌, ℕ, ◌-◌, ◌<◌, ◌≤◌, List, [], length, get_or, take, sym, refl, ap, ◌∙◌, arith, rules}
+use Rattle.std.proofs.Common.{◌≡◌, ℕ, List, [], length, take, sym, ap, ◌∙◌, arith}
 use Rattle.place.specs.declared.kept.Kept.TheVariants as typed
 use Rattle.std.proofs.lemmas.List.{take_all}
 use Rattle.disks.specs.Device.{zeros}
 use Rattle.place.specs.declared.kept.Kept.{Kept}
-use Rattle.place.specs.Places.{the_sectors, the_kept}
+use Rattle.place.specs.Places.{the_sectors}
 use Rattle.place.proofs.Logs.{is_told, not_told}
 use Rattle.place.proofs.one_place.sector_after.Goals as goal
 

@@ -1,4 +1,4 @@
-use Rattle.std.proofs.Common.{arith, rules}
+use Rattle.std.proofs.Common.{rules}
 use Rattle.disks.specs.Disks.{one}
 use Rattle.volumes.proofs.service.recounted.Goals as goal
 

@@ -1,4 +1,4 @@
-use Rattle.std.proofs.Common.{◌≡◌, ℕ, ◌+◌, ◌-◌, ◌<◌, ◌≤◌, sym, ap, ◌∙◌, arith, rules}
+use Rattle.std.proofs.Common.{◌+◌, arith}
 use Rattle.volumes.specs.Service.{with_token}
 use Rattle.volumes.proofs.Weighing.{counted-set, found_weighs}
 use Rattle.volumes.proofs.volumes.Volumes.attach.Goals as goal

@@ -1,4 +1,4 @@
-use Rattle.std.proofs.Common.{◌≡◌, ℕ, ◌+◌, ◌-◌, ◌<◌, ◌≤◌, sym, ap, ◌∙◌, arith, rules}
+use Rattle.std.proofs.Common.{ap, arith}
 use Rattle.volumes.specs.Weights.{weighs}
 use Rattle.volumes.proofs.Weighing.{counted_removed, found_weighs}
 use Rattle.volumes.proofs.volumes.Volumes.drop_volume.Goals as goal

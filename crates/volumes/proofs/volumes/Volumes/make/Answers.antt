@@ -1,4 +1,4 @@
-use Rattle.std.proofs.Common.{◌≡◌, ℕ, ◌+◌, ◌-◌, ◌<◌, ◌≤◌, vec_items, sym, ap, ◌∙◌, arith, rules}
+use Rattle.std.proofs.Common.{vec_items, ap, arith}
 use Rattle.volumes.specs.Service.{new_head}
 use Rattle.volumes.specs.Weights.{weighs}
 use Rattle.volumes.proofs.Weighing.{weighs_push}

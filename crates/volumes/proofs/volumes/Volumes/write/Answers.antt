@@ -1,4 +1,4 @@
-use Rattle.std.proofs.Common.{◌≡◌, ℕ, ◌+◌, ◌-◌, ◌<◌, ◌≤◌, sym, ap, ◌∙◌, subst, arith, rules}
+use Rattle.std.proofs.Common.{sym, ◌∙◌, arith}
 use Rattle.volumes.specs.Service.{with_used}
 use Rattle.volumes.proofs.Weighing.{counted-set, found_weighs, recount-within}
 use Rattle.volumes.proofs.volumes.Volumes.write.Goals as goal
