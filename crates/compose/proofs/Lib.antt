@@ -8,4 +8,5 @@ pub mod Many
 pub mod Sets
 pub mod Past
 pub mod Transfer
+pub mod TransferFor
 pub mod TransferAnswers

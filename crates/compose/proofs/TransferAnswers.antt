@@ -9,7 +9,7 @@ use Rattle.disks.specs.Cluster.{In, From, Tick, Out, House, Seen, tells, inside,
 use Rattle.compose.proofs.Group.{in_group}
 use Rattle.compose.specs.Pure.{Pure, off, on, World, after, PureHelped, still, rising, doing, ticking}
 use Rattle.compose.specs.SimulationFor.{SimulatesFor, CarriesAnswers}
-use Rattle.compose.proofs.Transfer.{Match, Beside, ended, came_up, alike}
+use Rattle.compose.proofs.TransferFor.{Match, Beside, ended, came_up, alike}
 
 module _ {M O R : Type 0} (h : House M O R) (q : Pure M O R) (all size limit : ℕ) (sim : SimulatesFor h q all size limit) where
   find_on : (n j : ℕ) (m : q.Mem) (s : q.D) (a : Cluster.Stand h.Mem) → Match h q all size limit sim n j a (on m s) → (k : h.Mem) × (d : Device) × (a ≡ on' k d) × sim.On n j m s k d

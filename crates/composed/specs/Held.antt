@@ -16,7 +16,8 @@ use Rattle.compose.proofs.Inside.{within-over, houses_within}
 use Rattle.compose.proofs.Many.{many_at_once, any_waiting}
 use Rattle.compose.proofs.Past.{inserted_into_the_past, one_inserted}
 use Rattle.compose.proofs.Sets.{taken_done, taken-told, taken-busy, taken_many}
-use Rattle.compose.proofs.Transfer.{carries, carries-within, carries_for, carries_within_for}
+use Rattle.compose.proofs.Transfer.{carries, carries-within}
+use Rattle.compose.proofs.TransferFor.{carries_for, carries_within_for}
 use Rattle.compose.proofs.TransferAnswers.{carries-answers}
 use Rattle.compose.proofs.Ways.{houses-busy, houses-answer}
 
