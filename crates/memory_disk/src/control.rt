@@ -1,6 +1,6 @@
 // What a rehearsal does with the disk: it makes it, has it fail, and cuts its power.
 ghost use Rattle.std.specs.Prelude.{◌≡◌, Some, None};
-ghost use Rattle.std.specs.BTreeMap.{btree_map_len as tableSize};
+ghost use Rattle.std.specs.BTreeMap.{btree_map_len};
 ghost use Rattle.disks.specs.Device.{blank_device};
 ghost use Rattle.memory_disk.specs.Disks.{MemoryHolds, Unmoved, Cuts};
 
@@ -25,7 +25,7 @@ impl MemoryDisk {
 
     // How many sectors take memory.
     pub fn sectors_kept(&self) -> usize
-        ensures { result ≡ tableSize self.now.sectors.written }
+        ensures { result ≡ btree_map_len self.now.sectors.written }
     {
         self.sectors.count()
     }
