@@ -2,4 +2,4 @@ use Rattle.composed.specs.Held.{is_shown}
 use Rattle.composed.proofs.histories_hold.Goals as goal
 
 pub returns : goal.returns
-returns c = record { along = is_shown; many = is_shown; any = is_shown; done = is_shown; told = is_shown; busy = is_shown; taken = is_shown; past = is_shown; inserted = is_shown }
+returns c = record { along = is_shown; many = is_shown; any = is_shown }

@@ -2,4 +2,4 @@ use Rattle.composed.specs.Held.{is_shown}
 use Rattle.composed.proofs.pure_houses_carry.Goals as goal
 
 pub returns : goal.returns
-returns c = record { carries = is_shown; within = is_shown; carries_for = is_shown; within_for = is_shown; answers = is_shown }
+returns c = record { carries = is_shown; within = is_shown }
