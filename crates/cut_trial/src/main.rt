@@ -2,7 +2,6 @@
 #![tactic(auto)]
 
 mod model;
-mod random;
 
 use anyhow::anyhow;
 use device::disk::Fault;
@@ -11,8 +10,8 @@ use device::open::open;
 use device::put::put;
 use journal::state::{Got, Journal, Opened, Outcome, Write};
 use memory_disk::MemoryDisk;
+use memory_disk::random::Random;
 use model::{Model, PLAYED, transaction};
-use random::Random;
 use std::alloc::Global;
 use std::{env, io};
 

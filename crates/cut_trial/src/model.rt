@@ -1,7 +1,11 @@
 // The plain array that the journal is compared with: a few sectors of the device, and the transaction that was cut, if one was.
-use crate::random::Random;
+ghost use Rattle.std.specs.Prelude.{◌≡◌, ℕ, ◌<◌, ◌≤◌, ◌↔◌, IfOk, IsTrue, replicate, length, slice_index_or, vec_len};
+ghost use Rattle.disks.specs.Device.{zeros};
+ghost use Rattle.cut_trial.specs.Models.{placed, after_writes};
+
 use journal::state::Write;
 use journal::{GUARDED, Place};
+use memory_disk::random::Random;
 use octets::{BLANK_SECTOR, SECTOR_BYTES};
 use std::alloc::{AllocError, Global};
 
@@ -15,8 +19,23 @@ pub struct Model {
     pub sectors: Vec<[u8; SECTOR_BYTES]>,
 }
 
+// What a sector holds after these writes.
+fn latest(writes: &[Write], at: Place, before: [u8; SECTOR_BYTES]) -> [u8; SECTOR_BYTES]
+    ensures { result ≡ after_writes writes.now at.0 before }
+{
+    let mut bytes = before;
+    for w in writes {
+        if w.target.0 == at.0 {
+            bytes = w.bytes;
+        }
+    }
+    bytes
+}
+
 impl Model {
-    pub fn new(heap: Global) -> Result<Model, AllocError> {
+    pub fn new(heap: Global) -> Result<Model, AllocError>
+        ensures { IfOk result (λ m. m.sectors.items ≡ replicate 48 (zeros 512)) }
+    {
         let mut sectors = Vec::new(heap);
         for _ in 0..PLAYED {
             sectors.push(BLANK_SECTOR)?;
@@ -24,33 +43,31 @@ impl Model {
         Ok(Model { sectors })
     }
 
-    pub fn place(i: usize) -> Place {
+    pub fn place(i: usize) -> Place
+        ensures { result.0 ≡ placed i }
+    {
         Place(GUARDED + APART * (i % PLAYED) as u64)
     }
 
     // Takes over a transaction.
-    pub fn put(&mut self, writes: &[Write]) {
+    pub fn put(&mut self, writes: &[Write])
+        ensures count { vec_len self.new.sectors ≡ vec_len self.old.sectors }
+        ensures each { (k : ℕ) → k < vec_len self.old.sectors → slice_index_or self.new.sectors.items k (zeros 512) ≡ after_writes writes.now (placed k) (slice_index_or self.old.sectors.items k (zeros 512)) }
+    {
         for i in 0..self.sectors.len() {
-            for w in writes {
-                if w.target.0 == Model::place(i).0 {
-                    self.sectors[i] = w.bytes;
-                }
-            }
+            self.sectors[i] = latest(writes, Model::place(i), self.sectors[i]);
         }
     }
 
     // Whether the sector holds this, with these writes done or not.
-    pub fn holds(&self, i: usize, writes: &[Write], bytes: &[u8; SECTOR_BYTES]) -> bool {
-        let mut expected = BLANK_SECTOR;
+    pub fn holds(&self, i: usize, writes: &[Write], bytes: &[u8; SECTOR_BYTES]) -> bool
+        ensures { IsTrue result ↔ (after_writes writes.now (placed i) (slice_index_or self.now.sectors.items i (zeros 512)) ≡ bytes.now) }
+    {
+        let mut before = BLANK_SECTOR;
         if i < self.sectors.len() {
-            expected = self.sectors[i];
+            before = self.sectors[i];
         }
-        for w in writes {
-            if w.target.0 == Model::place(i).0 {
-                expected = w.bytes;
-            }
-        }
-        expected == *bytes
+        latest(writes, Model::place(i), before) == *bytes
     }
 }
 

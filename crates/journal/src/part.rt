@@ -118,7 +118,7 @@ pub fn fill_first_half(
 )
     ensures { sector.new ≡ part_bytes (record { number = number; index = index; length = length; target = write.now.target }) (take 256 write.now.bytes) }
 {
-    let Some(half) = write.bytes.first_chunk::<HALF_BYTES>() else {
+    let Some(first) = write.bytes.first_chunk::<HALF_BYTES>() else {
         unreachable()
     };
     let part = Part {
@@ -127,7 +127,7 @@ pub fn fill_first_half(
         length,
         target: write.target,
     };
-    part.fill(half, sector);
+    part.fill(first, sector);
 }
 
 // Fills a sector of a record with the second half of a write.
@@ -140,7 +140,7 @@ pub fn fill_second_half(
 )
     ensures { sector.new ≡ part_bytes (record { number = number; index = index; length = length; target = write.now.target }) (drop 256 write.now.bytes) }
 {
-    let Some(half) = write.bytes.last_chunk::<HALF_BYTES>() else {
+    let Some(second) = write.bytes.last_chunk::<HALF_BYTES>() else {
         unreachable()
     };
     let part = Part {
@@ -149,7 +149,7 @@ pub fn fill_second_half(
         length,
         target: write.target,
     };
-    part.fill(half, sector);
+    part.fill(second, sector);
 }
 
 // The sector whose halves these two sectors of a record carry.

@@ -1,8 +1,8 @@
-// Chance by a seed: the generator splitmix64.
+// What of the writes since the last sync stays at a cut, by a seed.
 ghost use Rattle.std.specs.Prelude.{◌≡◌, ◌%◌, nat_lt};
 ghost use Rattle.memory_disk.specs.Chances.{stepped, mixed};
 
-const STEP: u64 = 0x9e37_79b9_7f4a_7c15;
+use crate::random::Random;
 
 // Odds are counted in eighths.
 const WHOLE: u64 = 8;
@@ -10,37 +10,26 @@ const WHOLE: u64 = 8;
 // odds: how many of eight writes stay. They are drawn first, from none to all, so that a cut may lose everything or nothing.
 #[derive(Drop)]
 pub struct Chance {
-    state: u64,
+    random: Random,
     odds: u64,
-}
-
-fn mix(state: u64) -> u64
-    ensures { result ≡ mixed state }
-{
-    let a = (state ^ (state >> 30)).wrapping_mul(0xbf58_476d_1ce4_e5b9);
-    let b = (a ^ (a >> 27)).wrapping_mul(0x94d0_49bb_1331_11eb);
-    b ^ (b >> 31)
 }
 
 impl Chance {
     pub fn new(seed: u64) -> Chance
-        ensures state { result.state ≡ stepped seed }
+        ensures state { result.random.state ≡ stepped seed }
         ensures odds { result.odds ≡ mixed (stepped seed) % 9 }
     {
-        let state = seed.wrapping_add(STEP);
-        Chance {
-            state,
-            odds: mix(state) % (WHOLE + 1),
-        }
+        let mut random = Random::new(seed);
+        let odds = random.below(WHOLE + 1);
+        Chance { random, odds }
     }
 
     // Whether the next write stays.
     pub fn stays(&mut self) -> bool
-        ensures value { result ≡ nat_lt (mixed (stepped self.old.state) % 8) self.old.odds }
-        ensures state { self.new.state ≡ stepped self.old.state }
+        ensures value { result ≡ nat_lt (mixed (stepped self.old.random.state) % 8) self.old.odds }
+        ensures state { self.new.random.state ≡ stepped self.old.random.state }
         ensures odds { self.new.odds ≡ self.old.odds }
     {
-        self.state = self.state.wrapping_add(STEP);
-        mix(self.state) % WHOLE < self.odds
+        self.random.below(WHOLE) < self.odds
     }
 }

@@ -11,6 +11,7 @@ use sectors::Sectors;
 mod chance;
 mod control;
 pub mod disk;
+pub mod random;
 mod sectors;
 
 // size: how many sectors it has; log: the writes since the last sync, in order; left: how many more requests it answers, if that is limited.

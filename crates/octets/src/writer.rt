@@ -1,5 +1,5 @@
 // A message as bytes: its first byte, then numbers of 8 bytes each.
-ghost use Rattle.std.specs.Prelude.{◌≡◌, ◌∷◌, ◌++◌, is_ok, IfOk, if◌then◌else◌};
+ghost use Rattle.std.specs.Prelude.{◌+◌, ◌*◌, length, vec_len, ◌≡◌, ◌∷◌, ◌++◌, is_ok, IfOk, if◌then◌else◌};
 ghost use Rattle.octets.specs.Numbers.{bytes_of, numbers_bytes};
 
 use std::alloc::{AllocError, Global};
@@ -22,7 +22,8 @@ pub fn put_length(out: &mut Vec<u8>, n: u32) -> Result<(), AllocError>
 
 // A message of a first byte and numbers.
 pub fn message(heap: Global, first: u8, numbers: &[u64]) -> Result<Vec<u8>, AllocError>
-    ensures { IfOk result (λ v. v.items ≡ first ∷ numbers_bytes numbers.now) }
+    ensures bytes { IfOk result (λ v. v.items ≡ first ∷ numbers_bytes numbers.now) }
+    ensures len { IfOk result (λ v. vec_len v ≡ 1 + 8 * length numbers.now) }
 {
     let mut out = Vec::new(heap);
     out.push(first)?;

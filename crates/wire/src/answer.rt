@@ -1,5 +1,5 @@
 // What a customer is answered, and its bytes.
-ghost use Rattle.std.specs.Prelude.{◌≡◌, IfOk};
+ghost use Rattle.std.specs.Prelude.{◌≡◌, ◌≤◌, vec_len, IfOk};
 ghost use Rattle.std.specs.Option.{option_map};
 ghost use Rattle.wire.specs.Answers.{the_reply, answer_bytes, answered_by, answered_as, refused_by};
 ghost use Rattle.wire.specs.Promises.{AnswerBytesSound};
@@ -36,7 +36,8 @@ impl<'a> Answer<'a> {
     }
 
     pub fn encode(&self, heap: Global) -> Result<Vec<u8>, AllocError>
-        ensures { IfOk result (λ v. v.items ≡ answer_bytes (the_reply self.now)) }
+        ensures bytes { IfOk result (λ v. v.items ≡ answer_bytes (the_reply self.now)) }
+        ensures short { IfOk result (λ v. vec_len v ≤ 513) }
     {
         match *self {
             Answer::Refused(refusal) => {

@@ -1,5 +1,5 @@
 // What is sent to a customer: an answer under the number of its call.
-ghost use Rattle.std.specs.Prelude.{◌≡◌, IfOk};
+ghost use Rattle.std.specs.Prelude.{◌≡◌, IfErr, IfOk};
 ghost use Rattle.wire.specs.Answers.{the_reply, answer_bytes};
 ghost use Rattle.wire.specs.Frames.{frame_bytes};
 
@@ -15,9 +15,10 @@ pub struct Response<'a> {
 }
 
 impl Response<'_> {
-    // The frame that carries it.
+    // The frame that carries it; an answer is never too long for one.
     pub fn encode(&self, heap: Global) -> Result<Vec<u8>, FrameError>
-        ensures { IfOk result (λ v. v.items ≡ frame_bytes self.now.customer.0 (answer_bytes (the_reply self.now.answer))) }
+        ensures bytes { IfOk result (λ v. v.items ≡ frame_bytes self.now.customer.0 (answer_bytes (the_reply self.now.answer))) }
+        ensures memory { IfErr result (λ e. e ≡ FrameError.Memory) }
     {
         let body = self.answer.encode(heap)?;
         let frame = Frame {
