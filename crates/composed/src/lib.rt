@@ -1,4 +1,5 @@
-// Composition: what is right above a judge is right above every machine that keeps to it. Shown once, used at every layer.
+// Composition: what is right above a judge is right above every machine that keeps to it. Shown once, used at every layer. Each contract
+// says that a statement of `compose` has this proof; what a function returns means nothing.
 #![tactic(auto)]
 
 ghost use Rattle.composed.specs.Held.{LayersHeld, WithinHeld, HousesHeld, HousesWithinHeld, HousesBusyHeld, HousesAnswerHeld, AlongHeld, ManyHeld, AnyHeld, TakenHeld, TakenToldHeld, TakenBusyHeld, TakenManyHeld, PastHeld, OneInsertedHeld, CarriesHeld, CarriesWithinHeld, CarriesForHeld, CarriesWithinForHeld, CarriesAnswersHeld};
