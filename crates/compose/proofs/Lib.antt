@@ -7,6 +7,6 @@ pub mod Along
 pub mod Many
 pub mod Sets
 pub mod Past
-pub mod Transfer
 pub mod TransferFor
+pub mod Transfer
 pub mod TransferAnswers

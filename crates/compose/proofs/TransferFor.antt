@@ -1,14 +1,22 @@
--- The same as in `Transfer`, for a house that simulates for as many steps as a limit says. A world of pure houses stands beside one of
--- houses on devices by a record of its own (`Beside`), which a way of answering, that goes on from a trace, needs too.
-use Rattle.std.specs.Prelude.{◌≡◌, refl, ◌⊎◌, ℕ, suc, ◌<◌, ◌≤◌}
-use Rattle.std.proofs.Common.{sym, ◌∙◌, ap, subst, inl, inr, arith}
+-- A house on a device that does what a pure house does, for as many steps as a limit says: each of its traces is one of the pure house's,
+-- house by house related, with the same packets under way and the same calls pending. So what holds of the pure traces holds of its own.
+-- A world of pure houses stands beside one of houses on devices by a record of its own (`Beside`), which a way of answering, that goes on
+-- from a trace, needs too.
+use Rattle.std.specs.Prelude.{◌≡◌, refl, ◌⊎◌, Bool, true, false, cond, ℕ, suc, ◌<◌, ◌≤◌, eqb}
+use Rattle.std.proofs.Common.{sym, ◌∙◌, ap, subst, inl, inr, arith, eqb-true}
 use mathlib.Core.List.{List, ◌∷◌, ◌++◌, Memᴰ}
 use Rattle.disks.specs.Device.{Device, run, Ran}
 use Rattle.disks.specs.Cluster
 use Rattle.disks.specs.Cluster.{In, From, Ask, Tick, Out, Tell, House, Seen, called, fell, Packet, Asking, put, packets, tells, settled, away_from, count_at, Plain, Waiting, Ready, Linear, AsOne, BusyAtNine, Within, begin as begin', rises as rises', does as does', asked as asked', ticks as ticks', falls as falls', falls_rising as falls_rising', falls_doing as falls_doing', falls_asked as falls_asked', falls_ticking as falls_ticking', on as on', off as off'}
 use Rattle.compose.specs.Pure.{Pure, Stand, off, on, World, Trace, begin, rises, does, asked, ticks, falls, falls_rising, falls_doing, falls_asked, falls_ticking, after, fallen, risen, asking}
-use Rattle.compose.proofs.Transfer.{both-put}
 use Rattle.compose.specs.SimulationFor.{SimulatesFor, CarriesFor, CarriesWithinFor}
+
+both-put : {A B : Type 0} (P : ℕ → A → B → Type 0) (i : ℕ) (s : A) (u : B) (hs : ℕ → A) (ks : ℕ → B) → P i s u → ((j : ℕ) → P j (hs j) (ks j)) → (j : ℕ) → P j (put i s hs j) (put i u ks j)
+both-put P i s u hs ks here others j = go (eqb j i) refl
+  where
+    go : (b : Bool) → eqb j i ≡ b → P j (cond b s (hs j)) (cond b u (ks j))
+    go true e = subst (λ (n : ℕ). P n s u) (sym (eqb-true _ _ e)) here
+    go false e = others j
 
 module _ {M O R : Type 0} (h : House M O R) (q : Pure M O R) (all size limit : ℕ) (sim : SimulatesFor h q all size limit) where
   abbrev pub Match : (n j : ℕ) → Cluster.Stand h.Mem → Stand q.Mem q.D → Type 0
@@ -50,6 +58,10 @@ module _ {M O R : Type 0} (h : House M O R) (q : Pure M O R) (all size limit : �
     is_off : (d : Device) → w.house i ≡ off' d → (s : q.D) × (u.house i ≡ off s) × sim.Off n i s d
     is_off d e = find_off n i d (u.house i) (subst (λ z. Match n i z (u.house i)) e (l.houses i))
 
+    -- one house comes to be so, and the others stay
+    goes_on : (a : Cluster.Stand h.Mem) (b : Stand q.Mem q.D) → Match (suc n) i a b → (j : ℕ) → Match (suc n) j (put i a w.house j) (put i b u.house j)
+    goes_on a b o = both-put (Match (suc n)) i a b w.house u.house o (λ j. later n j (w.house j) (u.house j) (l.houses j))
+
     -- a call is made
     was-asked : (c : ℕ) → Beside n (Cluster.asking i c w) (asking i c u)
     was-asked c = record { houses = l.houses; wire_is = l.wire_is; pending_is = ap (λ y. record { house = i; id = c } ∷ y) l.pending_is }
@@ -58,18 +70,18 @@ module _ {M O R : Type 0} (h : House M O R) (q : Pure M O R) (all size limit : �
     pub ended : (r : Ran (record { out : List (Out M R); mem : h.Mem })) (x : record { stored : q.D; mem : q.Mem; out : List (Out M R) }) → r.value.out ≡ x.out → sim.On (suc n) i x.mem x.stored r.value.mem r.device → Beside (suc n) (Cluster.after {O = O} h i r w) (after q i x u)
     ended r x e o =
         record {
-          houses = both-put (Match (suc n)) i _ _ w.house u.house o (λ j. later n j (w.house j) (u.house j) (l.houses j));
+          houses = goes_on _ _ o;
           wire_is = ap (λ (z : List (Out M R)). packets i z ++ u.wire) (sym e) ∙ ap (λ z. packets i r.value.out ++ z) l.wire_is;
           pending_is = ap (λ (z : List (Out M R)). settled i z u.pending) (sym e) ∙ ap (settled i r.value.out) l.pending_is;
         }
 
     -- power failed
     fell-down : (s : q.D) (f : Device) → sim.Off (suc n) i s f → Beside (suc n) (Cluster.fallen i f w) (fallen i s u)
-    fell-down s f o = record { houses = both-put (Match (suc n)) i _ _ w.house u.house o (λ j. later n j (w.house j) (u.house j) (l.houses j)); wire_is = l.wire_is; pending_is = ap (away_from i) l.pending_is }
+    fell-down s f o = record { houses = goes_on _ _ o; wire_is = l.wire_is; pending_is = ap (away_from i) l.pending_is }
 
     -- power came
     pub came_up : (s : q.D) (d : Device) → sim.On (suc n) i (q.opens i all s).mem (q.opens i all s).stored (run (h.opens i all size) d).value (run (h.opens i all size) d).device → Beside (suc n) (Cluster.risen {O = O} h all size i d w) (risen q all i s u)
-    came_up s d o = record { houses = both-put (Match (suc n)) i _ _ w.house u.house o (λ j. later n j (w.house j) (u.house j) (l.houses j)); wire_is = l.wire_is; pending_is = l.pending_is }
+    came_up s d o = record { houses = goes_on _ _ o; wire_is = l.wire_is; pending_is = l.pending_is }
 
     on_wire : (p : Packet M) → Memᴰ p w.wire → Memᴰ p u.wire
     on_wire p m = subst (Memᴰ p) (sym l.wire_is) m
