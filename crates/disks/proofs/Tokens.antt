@@ -23,7 +23,7 @@ low_step {s} h (taken p e) v = weaken _ _ (at v s) (λ x l. omega arith) (h v)
 low_step h (thrown f) v = h v
 
 low-cut : {s u : State} → ((v : ℕ) → Head (λ (x : Volume). v < s.next) (at v s)) → Cut s u → (v : ℕ) → Head (λ (x : Volume). v < u.next) (at v u)
-low-cut h (cut s ws x) v = head_cut (λ (x : Volume). v < s.next) v (λ x d l. l) x (h v)
+low-cut h (cut s ws x) v = head_cut (λ (x : Volume). v < s.next) (λ (x : Volume). v < s.next) v (λ x l. l) (λ x d a l. l) x (h v)
 
 lows : {s t : State} → Run s t → ((v : ℕ) → Head (λ (x : Volume). v < s.next) (at v s)) → (v : ℕ) → Head (λ (x : Volume). v < t.next) (at v t)
 lows still h = h
@@ -44,7 +44,7 @@ past_step v k h (taken p e) = record { below = omega (arith, h.below); token = h
 past_step v k h (thrown f) = record { below = h.below; token = h.token }
 
 past_cut : (v k : ℕ) {s u : State} → Past v k s → Cut s u → Past v k u
-past_cut v k h (cut s ws x) = record { below = h.below; token = head_cut (λ (x : Volume). k ≤ x.token) v (λ x d l. omega arith) x h.token }
+past_cut v k h (cut s ws x) = record { below = h.below; token = head_cut (λ (x : Volume). k ≤ x.token) (λ (x : Volume). k ≤ x.token) v (λ x l. l) (λ x d a l. omega arith) x h.token }
 
 pasts : (v k : ℕ) {s t : State} → Run s t → Past v k s → Past v k t
 pasts v k still h = h
