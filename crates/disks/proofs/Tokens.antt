@@ -51,47 +51,21 @@ pasts v k still h = h
 pasts v k (onward {t = t} c r) h = past_step v k (pasts v k r h) (step c t)
 pasts v k (was_cut r x) h = past_cut v k (pasts v k r h) x
 
-abbrev IsToken : Reply → Type 0
-IsToken (No n) = ⊥
-IsToken Yes = ⊥
-IsToken (Num n) = ⊥
-IsToken (Token k z) = Unit {0}
-IsToken (Sector b) = ⊥
-IsToken Full = ⊥
-
-abbrev token_of : Reply → ℕ
-token_of (No n) = 0
-token_of Yes = 0
-token_of (Num n) = 0
-token_of (Token k z) = k
-token_of (Sector b) = 0
-token_of Full = 0
-
 -- what an attaching leaves
 past_attach : (v k z : ℕ) (s : State) (l : List Volume) → at v s ≡ l → Head (λ (x : Volume). v < s.next) l → Head (λ (x : Volume). v ≡ x.num) l → (attaches l s).reply ≡ Token k z → Past v k (attaches l s).state
 unfolding attaches
-past_attach v k z s [] p h n e = absurd (subst IsToken (sym e) tt)
-past_attach v k z s (x ∷ xs) p h n e = go (leb 4611686018427387903 x.token) e
+past_attach v k z s [] p h n e = absurd (cc e)
+past_attach v k z s (x ∷ xs) p h n e =
+    on_cond (λ (o : Out). o.reply ≡ Token k z → Past v k o.state) (leb 4611686018427387903 x.token) (λ _ e. absurd (cc e))
+    (λ _ e. record { below = h; token = rw (← n) (head_changed (λ (y : Volume). k ≤ y.token) v _ (λ y. refl) s.volumes (rw p (le (cc e)))) }) e
   where
-    f : Volume → Volume
-    f y = record { num = y.num; size = y.size; token = y.token + 1; disk = y.disk }
-
-    go : (b : Bool) → (cond b (no 8 s) (record { reply = Token (x.token + 1) x.size; state = in_volume x.num f s })).reply ≡ Token k z → Past v k (cond b (no 8 s) (record { reply = Token (x.token + 1) x.size; state = in_volume x.num f s })).state
-    go true e = absurd (subst IsToken (sym e) tt)
-    go false e = record { below = h; token = rw (← n) (head_changed (λ (y : Volume). k ≤ y.token) v f (λ y. refl) s.volumes (rw p (le e))) }
-      where
-        le : Token (x.token + 1) x.size ≡ Token k z → k ≤ x.token + 1
-        le e = omega (arith, ap token_of e)
+    le : k ≡ x.token + 1 → k ≤ x.token + 1
+    le e = omega arith
 
 differs : (a b : Bool) → T (not (a || not b)) → T b
 differs true b t = absurd t
 differs false true t = tt
 differs false false t = absurd t
-
-old_holding : (o : ℕ) (l : List Volume) (f : Volume → Out) (s : State) → Head (λ (x : Volume). o < x.token) l → (holding o l f s).state ≡ s
-unfolding holding
-old_holding o [] f s h = refl
-old_holding o (x ∷ xs) f s h = on_cond (λ (r : Out). r.state ≡ s) (eqb o 0 || not (eqb o x.token)) (λ u. refl) (λ u. absurd (omega (arith, eqb→eq o x.token (differs (eqb o 0) (eqb o x.token) u))))
 
 -- what is found under the number of a volume that was attached has a token above an older one
 newer : (s t : State) → Run blank s → (v k z : ℕ) → (does (Attach v) s).reply ≡ Token k z → Run (does (Attach v) s).state t → (o : ℕ) → o < k → Head (λ (x : Volume). o < x.token) (at v t)
@@ -100,14 +74,6 @@ newer s t r v k z e u o lt = weaken _ _ (at v t) (λ x l. omega arith) (pasts v 
   where
     low : (w : ℕ) → Head (λ (x : Volume). w < s.next) (at w s)
     low = lows r (λ w. unfold find in tt)
-
-pub old_tokens_nothing : OldTokensNothing
-unfolding does
-old_tokens_nothing s t r v k z n b e u o lt =
-    (on_cond (λ (r : Out). r.state ≡ t) (not (eqb (length b) 512 && all_bytes b)) (λ u. refl) (λ u. old_holding o (at v t) _ t h), old_holding o (at v t) _ t h, old_holding o (at v t) _ t h, old_holding o (at v t) _ t h)
-  where
-    h : Head (λ (x : Volume). o < x.token) (at v t)
-    h = newer s t r v k z e u o lt
 
 refused-holding : (o : ℕ) (l : List Volume) (f : Volume → Out) (s : State) → Head (λ (x : Volume). o < x.token) l → Refused (holding o l f s) s
 unfolding holding
@@ -121,3 +87,13 @@ old_tokens_refused s t r v k z n b e u o lt =
   where
     h : Head (λ (x : Volume). o < x.token) (at v t)
     h = newer s t r v k z e u o lt
+
+-- what is refused changes nothing
+unchanged : {o : Out} {s : State} → Refused o s → o.state ≡ s
+unchanged (inl e) = ap (λ (r : Out). r.state) e
+unchanged (inr e) = ap (λ (r : Out). r.state) e
+
+pub old_tokens_nothing : OldTokensNothing
+old_tokens_nothing s t r v k z n b e u o lt =
+    let (reads, writes, syncs, drops, takes) = old_tokens_refused s t r v k z n b e u o lt in
+    (elim writes [ inl x ↦ unchanged x | inr x ↦ ap (λ (r : Out). r.state) x ], unchanged syncs, unchanged drops, unchanged takes)

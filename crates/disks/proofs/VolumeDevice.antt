@@ -10,31 +10,7 @@ use Rattle.disks.specs.Device.{Device, shown, written, synced, all_bytes, AfterC
 use Rattle.disks.specs.Disks.{Volume, State, find, Reply, No, Yes, Num, Token, Sector, Full, Out, no, is_volume, with_disk, in_volume, attaches, does, cut_to, CutVolumes, no_more, left, is_cut, cut}
 use Rattle.disks.specs.Promise.{Uses, IsADevice, CutAsADevice}
 use Rattle.disks.proofs.Steps.{on_cond}
-use Rattle.disks.proofs.Found.{Head, at, all_heads, head_change, head_changed, on_found}
-
-abbrev IsYes : Reply → Type 0
-IsYes (No n) = ⊥
-IsYes Yes = Unit {0}
-IsYes (Num n) = ⊥
-IsYes (Token k z) = ⊥
-IsYes (Sector b) = ⊥
-IsYes Full = ⊥
-
-abbrev IsSector : Reply → Type 0
-IsSector (No n) = ⊥
-IsSector Yes = ⊥
-IsSector (Num n) = ⊥
-IsSector (Token k z) = ⊥
-IsSector (Sector b) = Unit {0}
-IsSector Full = ⊥
-
-abbrev bytes_of : Reply → List ℕ
-bytes_of (No n) = []
-bytes_of Yes = []
-bytes_of (Num n) = []
-bytes_of (Token k z) = []
-bytes_of (Sector b) = b
-bytes_of Full = []
+use Rattle.disks.proofs.Found.{Head, at, all_heads, head_change, head_changed, head_cut, on_found}
 
 abbrev pub Shows : ℕ → Device → State → Type 0
 Shows v d s = Head (λ (x : Volume). x.disk ≡ d) (at v s)
@@ -53,7 +29,7 @@ shows {v} {t} (Uses.writes {s = s} {d = d} n b u e) =
     P o = o.reply ≡ Yes → Shows v (written n b d) o.state
 
     no' : (k : ℕ) → P (no k s)
-    no' k e = absurd (subst IsYes (sym e) tt)
+    no' k e = absurd (cc e)
 
     changed' : (x : Volume) → x.disk ≡ d → Shows v (written n b d) (in_volume v (with_disk (written n b x.disk)) s)
     changed' x q = head_changed (λ (w : Volume). w.disk ≡ written n b d) v _ (λ w. refl) s.volumes (all_heads _ (at v s) (λ y. ap (written n b) q))
@@ -63,7 +39,7 @@ shows {v} {t} (Uses.syncs {s = s} {d = d} u e) = on_found P (λ (x : Volume). x.
     P o = o.reply ≡ Yes → Shows v (synced d) o.state
 
     no' : (k : ℕ) → P (no k s)
-    no' k e = absurd (subst IsYes (sym e) tt)
+    no' k e = absurd (cc e)
 
     changed' : (x : Volume) → x.disk ≡ d → Shows v (synced d) (in_volume v (with_disk (synced x.disk)) s)
     changed' x q = head_changed (λ (w : Volume). w.disk ≡ synced d) v _ (λ w. refl) s.volumes (all_heads _ (at v s) (λ y. ap synced q))
@@ -73,27 +49,13 @@ shows (Uses.others c u e) = rw e (shows u)
 pub is_a_device : IsADevice
 unfolding does
 is_a_device v t z n s d b u e =
-    on_found P (λ (x : Volume). x.disk ≡ d) t (at v s) _ s (no' 2) (no' 4) (shows u) (λ x q. on_cond P (ltb n x.size) (λ _ e. sym (ap bytes_of e) ∙ ap (λ (f : Device). shown f n) q) (λ _. no' 1)) e
+    on_found P (λ (x : Volume). x.disk ≡ d) t (at v s) _ s (no' 2) (no' 4) (shows u) (λ x q. on_cond P (ltb n x.size) (λ _ e. cc (e, ap (λ (f : Device). shown f n) q)) (λ _. no' 1)) e
   where
     P : Out → Type 0
     P o = o.reply ≡ Sector b → b ≡ shown d n
 
     no' : (k : ℕ) → P (no k s)
-    no' k e = absurd (subst IsSector (sym e) tt)
-
-cut-volume : (v : ℕ) (d : Device) {vs ws : List Volume} → CutVolumes vs ws → Head (λ (x : Volume). x.disk ≡ d) (find (is_volume v) vs) → Head (λ (x : Volume). (x.disk ≡ d) ⊎ AfterCut d x.disk) (find (is_volume v) ws)
-unfolding find
-cut-volume v d no_more h = tt
-cut-volume v d (left {vs = vs} {ws = ws} x y) h = go (eqb v x.num) (cut-volume v d y) h
-  where
-    go : (c : Bool) → (Head (λ (x : Volume). x.disk ≡ d) (find (is_volume v) vs) → Head (λ (x : Volume). (x.disk ≡ d) ⊎ AfterCut d x.disk) (find (is_volume v) ws)) → Head (λ (x : Volume). x.disk ≡ d) (cond c (x ∷ []) (find (is_volume v) vs)) → Head (λ (x : Volume). (x.disk ≡ d) ⊎ AfterCut d x.disk) (cond c (x ∷ []) (find (is_volume v) ws))
-    go true ih h = inl h
-    go false ih h = ih h
-cut-volume v d (is_cut {vs = vs} {ws = ws} x f a y) h = go (eqb v x.num) (cut-volume v d y) h
-  where
-    go : (c : Bool) → (Head (λ (x : Volume). x.disk ≡ d) (find (is_volume v) vs) → Head (λ (x : Volume). (x.disk ≡ d) ⊎ AfterCut d x.disk) (find (is_volume v) ws)) → Head (λ (x : Volume). x.disk ≡ d) (cond c (x ∷ []) (find (is_volume v) vs)) → Head (λ (x : Volume). (x.disk ≡ d) ⊎ AfterCut d x.disk) (cond c (cut_to f x ∷ []) (find (is_volume v) ws))
-    go true ih h = inr (subst (λ (g : Device). AfterCut g f) h a)
-    go false ih h = ih h
+    no' k e = absurd (cc e)
 
 pub cut_as_a_device : CutAsADevice
-cut_as_a_device v t z s u d x use' (cut s' ws y) e = subst (Head (λ (x : Volume). (x.disk ≡ d) ⊎ AfterCut d x.disk)) e (cut-volume v d y (shows use'))
+cut_as_a_device v t z s u d x use' (cut s' ws y) e = subst (Head (λ (x : Volume). (x.disk ≡ d) ⊎ AfterCut d x.disk)) e (head_cut (λ (x : Volume). x.disk ≡ d) _ v (λ x q. inl q) (λ x f a q. inr (subst (λ (g : Device). AfterCut g f) q a)) y (shows use'))
