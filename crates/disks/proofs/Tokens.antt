@@ -11,7 +11,7 @@ use lib.ListN.{length}
 use Rattle.disks.specs.Device.{all_bytes}
 use Rattle.disks.specs.Disks.{Volume, State, blank, find, Attach, Reply, No, Yes, Num, Token, Sector, Full, Out, no, in_volume, attaches, holding, does, Cut, cut}
 use Rattle.disks.specs.Promise.{Run, still, onward, was_cut, OldTokensNothing, Refused, OldTokensRefused}
-use Rattle.disks.proofs.Steps.{Step, nothing, made, changed, dropped, taken, thrown, step, on_cond}
+use Rattle.disks.proofs.Steps.{Step, nothing, made, changed, dropped, taken, thrown, shortened, along, on_cond}
 use Rattle.disks.proofs.Found.{Head, at, weaken, head_num, head_change, head_changed, head_append, head_keep, head_cut}
 
 low_step : {s u : State} → ((v : ℕ) → Head (λ (x : Volume). v < s.next) (at v s)) → Step s u → (v : ℕ) → Head (λ (x : Volume). v < u.next) (at v u)
@@ -21,14 +21,7 @@ low_step {s} h (changed w f nums toks) v = head_change (λ (x : Volume). v < s.n
 low_step {s} h (dropped w) v = head_keep (λ (x : Volume). v < s.next) v w s.volumes (h v)
 low_step {s} h (taken p e) v = weaken _ _ (at v s) (λ x l. omega arith) (h v)
 low_step h (thrown f) v = h v
-
-low-cut : {s u : State} → ((v : ℕ) → Head (λ (x : Volume). v < s.next) (at v s)) → Cut s u → (v : ℕ) → Head (λ (x : Volume). v < u.next) (at v u)
-low-cut h (cut s ws x) v = head_cut (λ (x : Volume). v < s.next) (λ (x : Volume). v < s.next) v (λ x l. l) (λ x d a l. l) x (h v)
-
-lows : {s t : State} → Run s t → ((v : ℕ) → Head (λ (x : Volume). v < s.next) (at v s)) → (v : ℕ) → Head (λ (x : Volume). v < t.next) (at v t)
-lows still h = h
-lows (onward {t = t} c r) h = low_step (lows r h) (step c t)
-lows (was_cut r x) h = low-cut (lows r h) x
+low_step {s} h (shortened ws x) v = head_cut (λ (x : Volume). v < s.next) (λ (x : Volume). v < s.next) v (λ x l. l) (λ x d a l. l) x (h v)
 
 -- its number is never given again, and its token only grows
 record Past (v k : ℕ) (s : State) : Type 0 where
@@ -42,14 +35,7 @@ past_step v k {s} h (changed w f nums toks) = record { below = h.below; token = 
 past_step v k {s} h (dropped w) = record { below = h.below; token = head_keep (λ (x : Volume). k ≤ x.token) v w s.volumes h.token }
 past_step v k h (taken p e) = record { below = omega (arith, h.below); token = h.token }
 past_step v k h (thrown f) = record { below = h.below; token = h.token }
-
-past_cut : (v k : ℕ) {s u : State} → Past v k s → Cut s u → Past v k u
-past_cut v k h (cut s ws x) = record { below = h.below; token = head_cut (λ (x : Volume). k ≤ x.token) (λ (x : Volume). k ≤ x.token) v (λ x l. l) (λ x d a l. omega arith) x h.token }
-
-pasts : (v k : ℕ) {s t : State} → Run s t → Past v k s → Past v k t
-pasts v k still h = h
-pasts v k (onward {t = t} c r) h = past_step v k (pasts v k r h) (step c t)
-pasts v k (was_cut r x) h = past_cut v k (pasts v k r h) x
+past_step v k h (shortened ws x) = record { below = h.below; token = head_cut (λ (x : Volume). k ≤ x.token) (λ (x : Volume). k ≤ x.token) v (λ x l. l) (λ x d a l. omega arith) x h.token }
 
 -- what an attaching leaves
 past_attach : (v k z : ℕ) (s : State) (l : List Volume) → at v s ≡ l → Head (λ (x : Volume). v < s.next) l → Head (λ (x : Volume). v ≡ x.num) l → (attaches l s).reply ≡ Token k z → Past v k (attaches l s).state
@@ -70,10 +56,10 @@ differs false false t = absurd t
 -- what is found under the number of a volume that was attached has a token above an older one
 newer : (s t : State) → Run blank s → (v k z : ℕ) → (does (Attach v) s).reply ≡ Token k z → Run (does (Attach v) s).state t → (o : ℕ) → o < k → Head (λ (x : Volume). o < x.token) (at v t)
 unfolding does
-newer s t r v k z e u o lt = weaken _ _ (at v t) (λ x l. omega arith) (pasts v k u (past_attach v k z s (at v s) refl (low v) (head_num v s.volumes) e)).token
+newer s t r v k z e u o lt = weaken _ _ (at v t) (λ x l. omega arith) (along (Past v k) (λ s u. past_step v k) u (past_attach v k z s (at v s) refl (low v) (head_num v s.volumes) e)).token
   where
     low : (w : ℕ) → Head (λ (x : Volume). w < s.next) (at w s)
-    low = lows r (λ w. unfold find in tt)
+    low = along (λ (s : State). (w : ℕ) → Head (λ (x : Volume). w < s.next) (at w s)) (λ s u. low_step) r (λ w. unfold find in tt)
 
 refused-holding : (o : ℕ) (l : List Volume) (f : Volume → Out) (s : State) → Head (λ (x : Volume). o < x.token) l → Refused (holding o l f s) s
 unfolding holding
