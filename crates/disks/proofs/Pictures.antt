@@ -3,14 +3,14 @@
 use mathlib.Core.Path.{◌≡◌, ap, sym, ◌∙◌}
 use mathlib.Core.Logic.{◌⊎◌, inl, inr}
 use Rattle.std.proofs.Math.Logic.{⊎_map}
-use mathlib.Core.Bool.{Bool, true, false, cond}
+use mathlib.Core.Bool.{Bool}
 use mathlib.Core.List.Memᴰ
 use mathlib.Core.List.{List, [], ◌∷◌, ◌++◌, Memᴰ}
 use Prim.Native.Nat.{ℕ, ◌+◌, ◌<◌, ◌≤◌}
 use native.Mathlib.Omega.{arith}
 use native.Mathlib.Nat.{le_refl}
-use Rattle.disks.specs.Disks.{Picture, State, keep, Cut, cut}
-use Rattle.disks.specs.Promise.{Run, still, onward, was_cut, PicturesStand}
+use Rattle.disks.specs.Disks.{Picture, State, keep}
+use Rattle.disks.specs.Promise.{PicturesStand}
 use Rattle.disks.proofs.Steps.{Step, nothing, made, changed, dropped, taken, thrown, shortened, along, on_cond}
 
 mem_append : {A : Type 0} {x : A} (xs : List A) {y : A} → Memᴰ x (xs ++ (y ∷ [])) → Memᴰ x xs ⊎ (x ≡ y)

@@ -1,16 +1,16 @@
 -- Old tokens do nothing. A volume's number is never given again, and its token only grows; so once a token was given, what is found under
 -- the number has at least that token, and a call under an older one is refused.
-use mathlib.Core.Path.{◌≡◌, refl, ap, sym, subst}
+use mathlib.Core.Path.{◌≡◌, refl, ap}
 use mathlib.Core.Logic.{◌⊎◌, inl, inr}
-use mathlib.Core.Bool.{Bool, true, false, cond, ◌&&◌, ◌||◌, not}
+use mathlib.Core.Bool.{Bool, true, false, ◌&&◌, ◌||◌, not}
 use mathlib.Core.List.{List, [], ◌∷◌}
 use Prim.Native.Nat.{ℕ, ◌+◌, ◌<◌, ◌≤◌}
 use native.Mathlib.Omega.{arith}
 use lib.Dec.{eqb, leb, T, eqb→eq}
 use lib.ListN.{length}
 use Rattle.disks.specs.Device.{all_bytes}
-use Rattle.disks.specs.Disks.{Volume, State, blank, find, Attach, Reply, No, Yes, Num, Token, Sector, Full, Out, no, in_volume, attaches, holding, does, Cut, cut}
-use Rattle.disks.specs.Promise.{Run, still, onward, was_cut, OldTokensNothing, Refused, OldTokensRefused}
+use Rattle.disks.specs.Disks.{Volume, State, blank, find, Attach, Token, Out, no, attaches, holding, does}
+use Rattle.disks.specs.Promise.{Run, OldTokensNothing, Refused, OldTokensRefused}
 use Rattle.disks.proofs.Steps.{Step, nothing, made, changed, dropped, taken, thrown, shortened, along, on_cond}
 use Rattle.disks.proofs.Found.{Head, at, weaken, head_num, head_change, head_changed, head_append, head_keep, head_cut}
 

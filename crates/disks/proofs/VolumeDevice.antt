@@ -1,13 +1,13 @@
 -- Whoever has a volume has a device: along its calls, what is found under its number has the device that these calls make.
-use mathlib.Core.Path.{◌≡◌, refl, ap, sym, ◌∙◌, subst}
+use mathlib.Core.Path.{◌≡◌, refl, ap, subst}
 use mathlib.Core.Logic.{◌⊎◌, inl, inr}
-use mathlib.Core.Bool.{Bool, true, false, cond, ◌&&◌, not}
+use mathlib.Core.Bool.{◌&&◌, not}
 use mathlib.Core.List.{List, [], ◌∷◌}
 use Prim.Native.Nat.{ℕ}
 use lib.Dec.{eqb, ltb, leb}
 use lib.ListN.{length}
 use Rattle.disks.specs.Device.{Device, shown, written, synced, all_bytes, AfterCut}
-use Rattle.disks.specs.Disks.{Volume, State, find, Reply, No, Yes, Num, Token, Sector, Full, Out, no, is_volume, with_disk, in_volume, attaches, does, cut_to, CutVolumes, no_more, left, is_cut, cut}
+use Rattle.disks.specs.Disks.{Volume, State, Yes, Sector, Out, with_disk, in_volume, attaches, does, cut}
 use Rattle.disks.specs.Promise.{Uses, IsADevice, CutAsADevice}
 use Rattle.disks.proofs.Steps.{on_cond}
 use Rattle.disks.proofs.Found.{Head, at, all_heads, head_change, head_changed, head_cut, on_found}
