@@ -1,5 +1,5 @@
 -- Houses compose, as layers do, house by house: each house's part below has a trace of its own, and a step touches one house.
-use Rattle.std.specs.Prelude.{◌≡◌, refl, Bool, true, false, cond, ℕ, T, eqb}
+use Rattle.std.specs.Prelude.{◌≡◌, refl, Bool, true, false, cond, ℕ, ◌≤◌, T, eqb}
 use Rattle.std.proofs.Math.Path.{ap}
 use Rattle.std.proofs.Common.{inl, inr, le_trans, eqb→eq, lit≤}
 use mathlib.Core.List.{List, [], ◌∷◌}
@@ -9,7 +9,15 @@ use Rattle.disks.specs.Device
 use Rattle.disks.specs.Cluster.{In, From, Ask, Tick, Out, Seen, Packet, Asking, House, put, packets, tells, settled, AsOne}
 use Rattle.disks.specs.Cluster
 use Rattle.disks.specs.Over.{HouseOn, house_over, StandOn, off', on', TraceOn, HousesCompose}
+use Rattle.compose.proofs.Put.{at_put, both-put}
+use Rattle.std.proofs.lemmas.Bool.{eq-eqb}
 use Rattle.compose.proofs.Compose.{run_then, upto_then, upto_map, Then, plan_done, plan-cut, at_opening, at_between}
+
+-- what the parts below may have come to, where the machine keeps to the judge
+pub kept : {C R : Type 0} (j : ℕ → Judge C R) (e : Machine C R) (size : ℕ) → Keeps j e → 65536 ≤ size → size ≤ 1099511627776 → {gs : ℕ → List (Event C R)} {w : ℕ → World e} → ((k : ℕ) → Device.Trace e size (gs k) (w k)) → (σ : ℕ → (j size).State) × ((k : ℕ) → Allowed (j size) (gs k) (σ k))
+kept j e size keeps lo hi {gs} {w} trs =
+    let below = λ (k : ℕ). keeps size (le_trans (lit≤ tt) lo) hi (gs k) (w k) (trs k) in
+    (λ k. (below k).0, λ k. (below k).1)
 
 module _ {C R M O Q : Type 0} (j : ℕ → Judge C R) (e : Machine C R) (h : HouseOn C R M O Q) (all size : ℕ) where
   abbrev pub Mem : Type 0
@@ -40,32 +48,15 @@ module _ {C R M O Q : Type 0} (j : ℕ → Judge C R) (e : Machine C R) (h : Hou
   step {n} {es} house wire pending (gs, trs, back) i old new was P goes =
       let (g, tr, back') = goes (gs i) (rw was at (trs i)) in (
         put i g gs,
-        (λ k. traces g tr k (eqb k i)),
+        both-put (λ k fs x. Device.Trace e size fs (under x)) i g new gs house tr trs,
         λ σ ok.
-            let (s, y, p) = back' (σ i) (at_i g σ (eqb i i) (eqb_refl i) (ok i)) in
-            let (hs, t, same) = back (put i s σ) (λ k. before g σ s y k (eqb k i) (eqb→eq k i) (ok k)) in
-            (s, p, hs, t, first_at s σ hs (eqb i i) (eqb_refl i) (same i), λ k. after g σ s hs k (eqb k i) (eqb→eq k i) (same k), λ k. (put i s σ k, same k)),
+            let (s, y, p) = back' (σ i) (rw yes at (ok i)) in
+            let (hs, t, same) = back (put i s σ) (λ k. at_put i (λ b k. Allowed (j size) (cond b g (gs k)) (σ k) → Allowed (j size) (gs k) (cond b s (σ k))) (λ _. y) k (λ x. x) (ok k)) in
+            (s, p, hs, t, rw (yes, was) at (same i), λ k. at_put i (λ b k. hs k ≡ stand (house k) (cond b s (σ k)) → cond b (stand new (σ i)) (hs k) ≡ stand (cond b new (house k)) (σ k)) (λ _. refl) k (λ x. x) (same k), λ k. (put i s σ k, same k)),
       )
     where
-      traces : (g : List (Event C R)) → Device.Trace e size g (under new) → (k : ℕ) (b : Bool) → Device.Trace e size (cond b g (gs k)) (under (cond b new (house k)))
-      traces g tr k true = tr
-      traces g tr k false = trs k
-
-      at_i : (g : List (Event C R)) (σ : ℕ → (j size).State) (b : Bool) → T b → Allowed (j size) (cond b g (gs i)) (σ i) → Allowed (j size) g (σ i)
-      at_i g σ true t x = x
-      at_i g σ false t x = absurd t
-
-      before : (g : List (Event C R)) (σ : ℕ → (j size).State) (s : (j size).State) → Allowed (j size) (gs i) s → (k : ℕ) (b : Bool) → (T b → k ≡ i) → Allowed (j size) (cond b g (gs k)) (σ k) → Allowed (j size) (gs k) (cond b s (σ k))
-      before g σ s y k true q x = rw (q tt) y
-      before g σ s y k false q x = x
-
-      first_at : (s : (j size).State) (σ : ℕ → (j size).State) (hs : ℕ → StandOn (j size) h) (b : Bool) → T b → hs i ≡ stand (house i) (cond b s (σ i)) → hs i ≡ stand old s
-      first_at s σ hs true t q = rw was at q
-      first_at s σ hs false t q = absurd t
-
-      after : (g : List (Event C R)) (σ : ℕ → (j size).State) (s : (j size).State) (hs : ℕ → StandOn (j size) h) (k : ℕ) (b : Bool) → (T b → k ≡ i) → hs k ≡ stand (house k) (cond b s (σ k)) → cond b (stand new (σ i)) (hs k) ≡ stand (cond b new (house k)) (σ k)
-      after g σ s hs k true q r = rw (q tt)
-      after g σ s hs k false q r = r
+      yes : eqb i i ≡ true
+      yes = eq-eqb i i refl
 
   at_first : {s : (j size).State} → Allowed (j size) [] s → (j size).start ≡ s
   at_first at_start = refl
@@ -136,6 +127,6 @@ module _ {C R M O Q : Type 0} (j : ℕ → Judge C R) (e : Machine C R) (h : Hou
 pub houses_compose : HousesCompose
 houses_compose C R M O Q j p e h keeps one all size a b lo hi n es w lt tr =
     let (gs, trs, back) = sim j e h all size tr in
-    let under = λ (k : ℕ). keeps size (le_trans (lit≤ tt) lo) hi (gs k) _ (trs k) in
-    let (hs, t, same) = back (λ k. (under k).0) (λ k. (under k).1) in
+    let (σ, ok) = kept j e size keeps lo hi trs in
+    let (hs, t, same) = back σ ok in
     one all size a b lo hi n es _ lt t

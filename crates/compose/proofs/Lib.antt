@@ -1,3 +1,4 @@
+pub mod Put
 pub mod Compose
 pub mod Houses
 pub mod Inside

@@ -2,21 +2,15 @@
 -- house by house related, with the same packets under way and the same calls pending. So what holds of the pure traces holds of its own.
 -- A world of pure houses stands beside one of houses on devices by a record of its own (`Beside`), which a way of answering, that goes on
 -- from a trace, needs too.
-use Rattle.std.specs.Prelude.{◌≡◌, refl, ◌⊎◌, Bool, true, false, cond, ℕ, suc, ◌<◌, ◌≤◌, eqb}
-use Rattle.std.proofs.Common.{sym, ◌∙◌, ap, subst, inl, inr, arith, eqb-true}
+use Rattle.std.specs.Prelude.{◌≡◌, refl, ◌⊎◌, ℕ, suc, ◌<◌, ◌≤◌}
+use Rattle.std.proofs.Common.{sym, ◌∙◌, ap, subst, inl, inr, arith}
 use mathlib.Core.List.{List, ◌∷◌, ◌++◌, Memᴰ}
 use Rattle.disks.specs.Device.{Device, run, Ran}
 use Rattle.disks.specs.Cluster
 use Rattle.disks.specs.Cluster.{In, From, Ask, Tick, Out, Tell, House, Seen, called, fell, Packet, Asking, put, packets, tells, settled, away_from, count_at, Plain, Waiting, Ready, Linear, AsOne, BusyAtNine, Within, begin as begin', rises as rises', does as does', asked as asked', ticks as ticks', falls as falls', falls_rising as falls_rising', falls_doing as falls_doing', falls_asked as falls_asked', falls_ticking as falls_ticking', on as on', off as off'}
 use Rattle.compose.specs.Pure.{Pure, Stand, off, on, World, Trace, begin, rises, does, asked, ticks, falls, falls_rising, falls_doing, falls_asked, falls_ticking, after, fallen, risen, asking}
+use Rattle.compose.proofs.Put.{both-put}
 use Rattle.compose.specs.SimulationFor.{SimulatesFor, CarriesFor, CarriesWithinFor}
-
-both-put : {A B : Type 0} (P : ℕ → A → B → Type 0) (i : ℕ) (s : A) (u : B) (hs : ℕ → A) (ks : ℕ → B) → P i s u → ((j : ℕ) → P j (hs j) (ks j)) → (j : ℕ) → P j (put i s hs j) (put i u ks j)
-both-put P i s u hs ks here others j = go (eqb j i) refl
-  where
-    go : (b : Bool) → eqb j i ≡ b → P j (cond b s (hs j)) (cond b u (ks j))
-    go true e = subst (λ (n : ℕ). P n s u) (sym (eqb-true _ _ e)) here
-    go false e = others j
 
 module _ {M O R : Type 0} (h : House M O R) (q : Pure M O R) (all size limit : ℕ) (sim : SimulatesFor h q all size limit) where
   abbrev pub Match : (n j : ℕ) → Cluster.Stand h.Mem → Stand q.Mem q.D → Type 0
