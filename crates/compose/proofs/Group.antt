@@ -1,5 +1,5 @@
 -- A group of houses: each of it is one of all houses.
-use Rattle.std.specs.Prelude.{Bool, true, false, ◌&&◌, ℕ, ◌<◌, T, ltb}
+use Rattle.std.specs.Prelude.{ℕ, ◌<◌, T, ltb}
 use mathlib.Core.List.{List, [], ◌∷◌, Memᴰ}
 use Rattle.std.proofs.Common.{ltb→lt}
 use Rattle.std.proofs.Math.Facts.{and_yes}

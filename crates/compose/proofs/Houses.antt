@@ -1,9 +1,8 @@
 -- Houses compose, as layers do, house by house: each house's part below has a trace of its own, and a step touches one house.
-use Rattle.std.specs.Prelude.{◌≡◌, refl, Bool, true, false, cond, ℕ, ◌≤◌, T, eqb}
+use Rattle.std.specs.Prelude.{◌≡◌, refl, true, cond, ℕ, ◌≤◌, eqb}
 use Rattle.std.proofs.Math.Path.{ap}
-use Rattle.std.proofs.Common.{inl, inr, le_trans, eqb→eq, lit≤}
+use Rattle.std.proofs.Common.{inl, inr, le_trans, lit≤}
 use mathlib.Core.List.{List, [], ◌∷◌}
-use Rattle.std.proofs.Math.Dec.{eqb_refl}
 use Rattle.disks.specs.Device.{Device, AfterCut, Io, answer, run, Upto, Machine, Event, World, off, on, opened, opening_cut, between_cut, cut_between, cut_opening, Judge, Allowed, at_start, Keeps, Plan, then', through, Comes, CutShort, at_once}
 use Rattle.disks.specs.Device
 use Rattle.disks.specs.Cluster.{In, From, Ask, Tick, Out, Seen, Packet, Asking, House, put, packets, tells, settled, AsOne}

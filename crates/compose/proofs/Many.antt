@@ -1,6 +1,5 @@
-use Rattle.std.specs.Prelude.{◌≡◌}
 use Rattle.std.proofs.Common.{subst}
-use mathlib.Core.List.{List, [], ◌∷◌, ◌++◌, Memᴰ}
+use mathlib.Core.List.{[], ◌∷◌, ◌++◌}
 use Rattle.disks.specs.Cluster.{Linear, is_done}
 use Rattle.compose.specs.Many.{ManyAtOnce, AnyWaiting}
 use Rattle.compose.proofs.Sets.{take_split, mem_takes}

@@ -1,6 +1,6 @@
-use Rattle.std.specs.Prelude.{◌≡◌, Bool, true, false, cond, ℕ, ◌≤◌, T, eqb}
+use Rattle.std.specs.Prelude.{◌≡◌, ℕ, ◌≤◌, T}
 use Rattle.std.proofs.Math.Path.{refl}
-use Rattle.std.proofs.Common.{ap, sym, subst, ◌∙◌, le_trans, lit≤}
+use Rattle.std.proofs.Common.{ap, sym, ◌∙◌}
 use mathlib.Core.List.Memᴰ
 use mathlib.Core.List.{List}
 use Rattle.disks.specs.Device.{Device, run, Machine, Event, Trace, Judge, Allowed, Keeps}
