@@ -1,5 +1,5 @@
 -- Houses compose, as layers do, house by house: each house's part below has a trace of its own, and a step touches one house.
-use Rattle.std.specs.Prelude.{◌≡◌, refl, true, cond, ℕ, ◌≤◌, eqb}
+use Rattle.std.specs.Prelude.{◌≡◌, refl, true, cond, ℕ, suc, ◌≤◌, eqb}
 use Rattle.std.proofs.Math.Path.{ap}
 use Rattle.std.proofs.Common.{inl, inr, le_trans, lit≤}
 use mathlib.Core.List.{List, [], ◌∷◌}
@@ -92,36 +92,28 @@ module _ {C R M O Q : Type 0} (j : ℕ → Judge C R) (e : Machine C R) (h : Hou
       Then (j size) e size (off g) (λ t. (s : (j size).State) × Allowed (j size) gs s × (j size).Down s t)
   between m d g gs tr x = (cut_between ∷ gs, between_cut tr x, λ t y. at_between (j size) y)
 
+  -- one house goes on by an event of the houses above
+  event : {n : ℕ} {es fs : List (Seen O Q)} {wire : List (Packet M)} {pending : List Asking} (w : Cluster.World Mem M) → SimAt n es w → (i : ℕ) (old new : Cluster.Stand Mem) → w.house i ≡ old → (P : (j size).State → (j size).State → Type 0) →
+      ((gs : List (Event C R)) → Device.Trace e size gs (under old) → Then (j size) e size (under new) (λ t. (s : (j size).State) × Allowed (j size) gs s × P s t)) →
+      ((s t : (j size).State) (hs : ℕ → StandOn (j size) h) → P s t → TraceOn j h all size n es (record { house = hs; wire = w.wire; pending = w.pending }) → hs i ≡ stand old s →
+      TraceOn j h all size (suc n) fs (record { house = put i (stand new t) hs; wire = wire; pending = pending })) →
+      Sim (suc n) fs (put i new w.house) wire pending
+  event w x i old new was P goes makes =
+      let (gs, trs, back) = step w.house w.wire w.pending x i old new was P goes in
+      (gs, trs, λ σ ok. let (s, c, hs, t, at_i, rest, like) = back σ ok in (_, makes s (σ i) hs c t at_i, rest))
+
   pub sim : {n : ℕ} {es : List (Seen O Q)} {w : Cluster.World Mem M} → Cluster.Trace (house_over e h) all size n es w → SimAt n es w
   unfolding packets settled
   sim Cluster.Trace.begin = ((λ k. []), (λ k. Device.Trace.begin), λ σ ok. ((λ k. off' (j size).start), TraceOn.begin, λ k. ap off' (at_first (ok k))))
-  sim (Cluster.Trace.rises {w = w} i d lt tr was) =
-      let (gs, trs, back) = step w.house w.wire w.pending (sim tr) i _ _ was _ (up_done i d) in
-      (gs, trs, λ σ ok. let (s, c, hs, t, at_i, rest, like) = back σ ok in (_, TraceOn.rises i lt t at_i c, rest))
-  sim (Cluster.Trace.does {w = w} i m d p lt tr was mem to) =
-      let (gs, trs, back) = step w.house w.wire w.pending (sim tr) i _ _ was _ (done (From p.from p.what) m d) in
-      (gs, trs, λ σ ok. let (s, c, hs, t, at_i, rest, like) = back σ ok in (_, TraceOn.does i p _ lt t at_i mem to c, rest))
-  sim (Cluster.Trace.asked {w = w} i k o m d lt kt tr was new) =
-      let (gs, trs, back) = step w.house w.wire w.pending (sim tr) i _ _ was _ (done (Ask k o) m d) in
-      (gs, trs, λ σ ok. let (s, c, hs, t, at_i, rest, like) = back σ ok in (_, TraceOn.asked i k o _ lt kt t at_i new c, rest))
-  sim (Cluster.Trace.ticks {w = w} i m d lt tr was) =
-      let (gs, trs, back) = step w.house w.wire w.pending (sim tr) i _ _ was _ (done Tick m d) in
-      (gs, trs, λ σ ok. let (s, c, hs, t, at_i, rest, like) = back σ ok in (_, TraceOn.ticks i _ lt t at_i c, rest))
-  sim (Cluster.Trace.falls {w = w} i m d g lt tr was x) =
-      let (gs, trs, back) = step w.house w.wire w.pending (sim tr) i _ _ was _ (λ gs t. between m d g gs t x) in
-      (gs, trs, λ σ ok. let (s, c, hs, t, at_i, rest, like) = back σ ok in (_, TraceOn.falls i lt t at_i c, rest))
-  sim (Cluster.Trace.falls_rising {w = w} i d f g lt tr was u x) =
-      let (gs, trs, back) = step w.house w.wire w.pending (sim tr) i _ _ was _ (λ gs t. up-cut i d f g gs t u x) in
-      (gs, trs, λ σ ok. let (s, c, hs, t, at_i, rest, like) = back σ ok in (_, TraceOn.falls_rising i lt t at_i c, rest))
-  sim (Cluster.Trace.falls_doing {w = w} i m d f g p lt tr was mem to u x) =
-      let (gs, trs, back) = step w.house w.wire w.pending (sim tr) i _ _ was _ (λ gs t. cut_short (From p.from p.what) m d f g gs t u x) in
-      (gs, trs, λ σ ok. let (s, c, hs, t, at_i, rest, like) = back σ ok in (_, TraceOn.falls_doing i p lt t at_i mem to c, rest))
-  sim (Cluster.Trace.falls_asked {w = w} i k o m d f g lt kt tr was new u x) =
-      let (gs, trs, back) = step w.house w.wire w.pending (sim tr) i _ _ was _ (λ gs t. cut_short (Ask k o) m d f g gs t u x) in
-      (gs, trs, λ σ ok. let (s, c, hs, t, at_i, rest, like) = back σ ok in (_, TraceOn.falls_asked i k o lt kt t at_i new c, rest))
-  sim (Cluster.Trace.falls_ticking {w = w} i m d f g lt tr was u x) =
-      let (gs, trs, back) = step w.house w.wire w.pending (sim tr) i _ _ was _ (λ gs t. cut_short Tick m d f g gs t u x) in
-      (gs, trs, λ σ ok. let (s, c, hs, t, at_i, rest, like) = back σ ok in (_, TraceOn.falls_ticking i lt t at_i c, rest))
+  sim (Cluster.Trace.rises i d lt tr was) = event _ (sim tr) i _ _ was _ (up_done i d) (λ s t hs c x at_i. TraceOn.rises i lt x at_i c)
+  sim (Cluster.Trace.does i m d p lt tr was mem to) = event _ (sim tr) i _ _ was _ (done (From p.from p.what) m d) (λ s t hs c x at_i. TraceOn.does i p _ lt x at_i mem to c)
+  sim (Cluster.Trace.asked i k o m d lt kt tr was new) = event _ (sim tr) i _ _ was _ (done (Ask k o) m d) (λ s t hs c x at_i. TraceOn.asked i k o _ lt kt x at_i new c)
+  sim (Cluster.Trace.ticks i m d lt tr was) = event _ (sim tr) i _ _ was _ (done Tick m d) (λ s t hs c x at_i. TraceOn.ticks i _ lt x at_i c)
+  sim (Cluster.Trace.falls i m d g lt tr was a) = event _ (sim tr) i _ _ was _ (λ gs t. between m d g gs t a) (λ s t hs c x at_i. TraceOn.falls i lt x at_i c)
+  sim (Cluster.Trace.falls_rising i d f g lt tr was u a) = event _ (sim tr) i _ _ was _ (λ gs t. up-cut i d f g gs t u a) (λ s t hs c x at_i. TraceOn.falls_rising i lt x at_i c)
+  sim (Cluster.Trace.falls_doing i m d f g p lt tr was mem to u a) = event _ (sim tr) i _ _ was _ (λ gs t. cut_short (From p.from p.what) m d f g gs t u a) (λ s t hs c x at_i. TraceOn.falls_doing i p lt x at_i mem to c)
+  sim (Cluster.Trace.falls_asked i k o m d f g lt kt tr was new u a) = event _ (sim tr) i _ _ was _ (λ gs t. cut_short (Ask k o) m d f g gs t u a) (λ s t hs c x at_i. TraceOn.falls_asked i k o lt kt x at_i new c)
+  sim (Cluster.Trace.falls_ticking i m d f g lt tr was u a) = event _ (sim tr) i _ _ was _ (λ gs t. cut_short Tick m d f g gs t u a) (λ s t hs c x at_i. TraceOn.falls_ticking i lt x at_i c)
 
 pub houses_compose : HousesCompose
 houses_compose C R M O Q j p e h keeps one all size a b lo hi n es w lt tr =
