@@ -1,10 +1,7 @@
 -- Volumes are apart: what is called of one leaves what is found under another's number.
-use mathlib.Core.Path.{◌≡◌, refl, ap, sym, ◌∙◌}
-use mathlib.Core.Bool.{Bool, cond, ◌&&◌, ◌||◌, not}
+use Rattle.std.specs.Prelude.{◌≡◌, refl, Bool, cond, ◌&&◌, ◌||◌, not, ℕ, eqb, ltb, leb, T, length}
+use Rattle.std.proofs.Common.{ap, sym, ◌∙◌, eqb→eq}
 use mathlib.Core.List.{List, [], ◌∷◌, Memᴰ}
-use Prim.Native.Nat.{ℕ}
-use lib.Dec.{eqb, ltb, leb, T, eqb→eq}
-use lib.ListN.{length}
 use Rattle.disks.specs.Device.{all_bytes}
 use Rattle.disks.specs.Disks.{Volume, Picture, State, blank, keep, find, change, Call, Make, Attach, Read, Write, Sync, Picture', Copy, Drop, DropPicture, Reply, No, Yes, Num, Token, Sector, Full, Out, no, is_volume, is_picture, with_volumes, with_disk, in_volume, device_of, makes, attaches, holding, inside, takes_picture, copies, drops_picture, does, cut_to, CutVolumes, no_more, left, is_cut, Cut, cut}
 use Rattle.disks.specs.Promise.{Apart, ApartAll}

@@ -1,9 +1,7 @@
 -- What is found under a number: if anything, then one of which Q holds. Each change of the list of volumes keeps that, or brings it about.
-use mathlib.Core.Path.{◌≡◌, sym, ◌∙◌, subst}
-use mathlib.Core.Bool.{Bool, true, false, cond, ◌||◌, not}
+use Rattle.std.specs.Prelude.{◌≡◌, Bool, true, false, cond, ◌||◌, not, ℕ, eqb, T}
+use Rattle.std.proofs.Common.{sym, ◌∙◌, subst, eqb→eq}
 use mathlib.Core.List.{List, [], ◌∷◌, ◌++◌}
-use Prim.Native.Nat.{ℕ}
-use lib.Dec.{eqb, T, eqb→eq}
 use Rattle.disks.specs.Device.{Device, AfterCut}
 use Rattle.disks.specs.Disks.{Volume, State, keep, find, change, Out, no, is_volume, holding, cut_to, CutVolumes, no_more, left, is_cut}
 use Rattle.disks.proofs.Steps.{on_cond}

@@ -1,14 +1,10 @@
 -- Pictures stand. Numbers of pictures are each one's own and below the next; from a state on, what is there was there or is newer. So a
 -- picture with an old number is the old picture.
-use mathlib.Core.Path.{◌≡◌, ap, sym, ◌∙◌}
-use mathlib.Core.Logic.{◌⊎◌, inl, inr}
+use Rattle.std.specs.Prelude.{◌≡◌, ◌⊎◌, Bool, ℕ, ◌+◌, ◌<◌, ◌≤◌}
+use Rattle.std.proofs.Common.{ap, sym, ◌∙◌, inl, inr, arith, le_refl}
 use Rattle.std.proofs.Math.Logic.{⊎_map}
-use mathlib.Core.Bool.{Bool}
 use mathlib.Core.List.Memᴰ
 use mathlib.Core.List.{List, [], ◌∷◌, ◌++◌, Memᴰ}
-use Prim.Native.Nat.{ℕ, ◌+◌, ◌<◌, ◌≤◌}
-use native.Mathlib.Omega.{arith}
-use native.Mathlib.Nat.{le_refl}
 use Rattle.disks.specs.Disks.{Picture, State, keep}
 use Rattle.disks.specs.Promise.{PicturesStand}
 use Rattle.disks.proofs.Steps.{Step, nothing, made, changed, dropped, taken, thrown, shortened, along, on_cond}

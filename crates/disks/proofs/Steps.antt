@@ -1,12 +1,7 @@
 -- What a call or a cut leaves, whichever it is: one of seven outcomes. Each promise over runs then goes by these.
-use mathlib.Core.Path.{◌≡◌, refl}
-use mathlib.Core.Bool.{Bool, true, false, cond, ◌&&◌, ◌||◌, not}
+use Rattle.std.specs.Prelude.{◌≡◌, refl, Bool, true, false, cond, ◌&&◌, ◌||◌, not, ℕ, ◌+◌, ◌≤◌, eqb, ltb, leb, T, length}
+use Rattle.std.proofs.Common.{arith, le_refl}
 use mathlib.Core.List.{List, [], ◌∷◌, ◌++◌}
-use Prim.Native.Nat.{ℕ, ◌+◌, ◌≤◌}
-use native.Mathlib.Omega.{arith}
-use native.Mathlib.Nat.{le_refl}
-use lib.Dec.{eqb, ltb, leb, T}
-use lib.ListN.{length}
 use Rattle.disks.specs.Device.{all_bytes}
 use Rattle.disks.specs.Disks.{Volume, Picture, State, keep, find, Call, Make, Attach, Read, Write, Sync, Picture', Copy, Drop, DropPicture, Out, no, is_volume, is_picture, with_volumes, in_volume, makes, attaches, holding, copies, drops_picture, does, CutVolumes, cut}
 use Rattle.disks.specs.Promise.{Run, still, onward, was_cut}

@@ -1,13 +1,8 @@
 -- Old tokens do nothing. A volume's number is never given again, and its token only grows; so once a token was given, what is found under
 -- the number has at least that token, and a call under an older one is refused.
-use mathlib.Core.Path.{◌≡◌, refl, ap}
-use mathlib.Core.Logic.{◌⊎◌, inl, inr}
-use mathlib.Core.Bool.{Bool, true, false, ◌&&◌, ◌||◌, not}
+use Rattle.std.specs.Prelude.{◌≡◌, refl, ◌⊎◌, Bool, true, false, ◌&&◌, ◌||◌, not, ℕ, ◌+◌, ◌<◌, ◌≤◌, eqb, leb, T, length}
+use Rattle.std.proofs.Common.{ap, inl, inr, arith, eqb→eq}
 use mathlib.Core.List.{List, [], ◌∷◌}
-use Prim.Native.Nat.{ℕ, ◌+◌, ◌<◌, ◌≤◌}
-use native.Mathlib.Omega.{arith}
-use lib.Dec.{eqb, leb, T, eqb→eq}
-use lib.ListN.{length}
 use Rattle.disks.specs.Device.{all_bytes}
 use Rattle.disks.specs.Disks.{Volume, State, blank, find, Attach, Token, Out, no, attaches, holding, does}
 use Rattle.disks.specs.Promise.{Run, OldTokensNothing, Refused, OldTokensRefused}

@@ -1,11 +1,7 @@
 -- Whoever has a volume has a device: along its calls, what is found under its number has the device that these calls make.
-use mathlib.Core.Path.{◌≡◌, refl, ap, subst}
-use mathlib.Core.Logic.{◌⊎◌, inl, inr}
-use mathlib.Core.Bool.{◌&&◌, not}
+use Rattle.std.specs.Prelude.{◌≡◌, refl, ◌⊎◌, ◌&&◌, not, ℕ, eqb, ltb, leb, length}
+use Rattle.std.proofs.Common.{ap, subst, inl, inr}
 use mathlib.Core.List.{List, [], ◌∷◌}
-use Prim.Native.Nat.{ℕ}
-use lib.Dec.{eqb, ltb, leb}
-use lib.ListN.{length}
 use Rattle.disks.specs.Device.{Device, shown, written, synced, all_bytes, AfterCut}
 use Rattle.disks.specs.Disks.{Volume, State, Yes, Sector, Out, with_disk, in_volume, attaches, does, cut}
 use Rattle.disks.specs.Promise.{Uses, IsADevice, CutAsADevice}
