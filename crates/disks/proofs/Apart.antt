@@ -1,6 +1,6 @@
 -- Volumes are apart: what is called of one leaves what is found under another's number.
 use Rattle.std.specs.Prelude.{◌≡◌, refl, Bool, cond, ◌&&◌, ◌||◌, not, ℕ, eqb, ltb, leb, T, length}
-use Rattle.std.proofs.Common.{ap, sym, ◌∙◌, eqb→eq}
+use Rattle.std.proofs.Common.{ap, sym, ◌∙◌, eqb→eq, arith}
 use mathlib.Core.List.{List, [], ◌∷◌, Memᴰ}
 use Rattle.disks.specs.Device.{all_bytes}
 use Rattle.disks.specs.Disks.{Volume, Picture, State, blank, keep, find, change, Call, Make, Attach, Read, Write, Sync, Picture', Copy, Drop, DropPicture, Reply, No, Yes, Num, Token, Sector, Full, Out, no, is_volume, is_picture, with_volumes, with_disk, in_volume, device_of, makes, attaches, holding, inside, takes_picture, copies, drops_picture, does, cut_to, CutVolumes, no_more, left, is_cut, Cut, cut}
@@ -30,7 +30,7 @@ apart s v t n b w mem other = ((writes.0, syncs.0), (writes.1, syncs.1))
 module _ (u v : ℕ) (other : u ≡ v → ⊥) where
   passed_over : (y : Volume) (ys : List Volume) → v ≡ y.num → find (is_volume u) (y ∷ ys) ≡ find (is_volume u) ys
   unfolding find
-  passed_over y ys e = on_cond (λ zs. zs ≡ find (is_volume u) ys) (eqb u y.num) (λ t. absurd (other (eqb→eq u y.num t ∙ sym e))) (λ _. refl)
+  passed_over y ys e = on_cond (λ zs. zs ≡ find (is_volume u) ys) (eqb u y.num) (λ t. absurd (other (grind arith))) (λ _. refl)
 
   find-change : (f : Volume → Volume) → ((x : Volume) → (f x).num ≡ x.num) → (vs : List Volume) → find (is_volume u) (change (is_volume v) f vs) ≡ find (is_volume u) vs
   unfolding find change

@@ -1,6 +1,6 @@
 -- What is found under a number: if anything, then one of which Q holds. Each change of the list of volumes keeps that, or brings it about.
 use Rattle.std.specs.Prelude.{◌≡◌, Bool, true, false, cond, ◌||◌, not, ℕ, eqb, T}
-use Rattle.std.proofs.Common.{sym, ◌∙◌, subst, eqb→eq}
+use Rattle.std.proofs.Common.{sym, ◌∙◌, subst, eqb→eq, arith}
 use mathlib.Core.List.{List, [], ◌∷◌, ◌++◌}
 use Rattle.disks.specs.Device.{Device, AfterCut}
 use Rattle.disks.specs.Disks.{Volume, State, keep, find, change, Out, no, is_volume, holding, cut_to, CutVolumes, no_more, left, is_cut}
@@ -73,7 +73,7 @@ module _ (Q : Volume → Type 0) (v : ℕ) where
   head_keep w [] h = tt
   head_keep w (x ∷ xs) h =
       on_cond Finds (not (eqb w x.num)) (λ _. head_cond Q Q (eqb v x.num) _ _ (λ _ q. q) (λ _. head_keep w xs) h)
-      (λ n. on_cond (λ (ys : List Volume). Head Q ys → Finds (keep (λ (y : Volume). not (is_volume w y)) xs)) (eqb v x.num) (λ u _. gone w (eqb→eq w x.num (T_not-not _ n) ∙ sym (eqb→eq v x.num u)) xs) (λ _. head_keep w xs) h)
+      (λ n. on_cond (λ (ys : List Volume). Head Q ys → Finds (keep (λ (y : Volume). not (is_volume w y)) xs)) (eqb v x.num) (λ u _. gone w (grind arith) xs) (λ _. head_keep w xs) h)
 
 -- holding, with what is known of the one that is found
 pub on_found : (P : Out → Type 0) (Q : Volume → Type 0) (t : ℕ) (l : List Volume) (f : Volume → Out) (s : State) → P (no 2 s) → P (no 4 s) → Head Q l → ((x : Volume) → Q x → P (f x)) → P (holding t l f s)

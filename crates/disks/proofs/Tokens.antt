@@ -38,15 +38,7 @@ unfolding attaches
 past_attach v k z s [] p h n e = absurd (cc e)
 past_attach v k z s (x ∷ xs) p h n e =
     on_cond (λ (o : Out). o.reply ≡ Token k z → Past v k o.state) (leb 4611686018427387903 x.token) (λ _ e. absurd (cc e))
-    (λ _ e. record { below = h; token = rw (← n) (head_changed (λ (y : Volume). k ≤ y.token) v _ (λ y. refl) s.volumes (rw p (le (cc e)))) }) e
-  where
-    le : k ≡ x.token + 1 → k ≤ x.token + 1
-    le e = omega arith
-
-differs : (a b : Bool) → T (not (a || not b)) → T b
-differs true b t = absurd t
-differs false true t = tt
-differs false false t = absurd t
+    (λ _ e. let q : k ≡ x.token + 1 = cc e in record { below = h; token = rw (← n) (head_changed (λ (y : Volume). k ≤ y.token) v _ (λ y. refl) s.volumes (rw p (omega (arith, q)))) }) e
 
 -- what is found under the number of a volume that was attached has a token above an older one
 newer : (s t : State) → Run blank s → (v k z : ℕ) → (does (Attach v) s).reply ≡ Token k z → Run (does (Attach v) s).state t → (o : ℕ) → o < k → Head (λ (x : Volume). o < x.token) (at v t)
@@ -59,7 +51,7 @@ newer s t r v k z e u o lt = weaken _ _ (at v t) (λ x l. omega arith) (along (P
 refused-holding : (o : ℕ) (l : List Volume) (f : Volume → Out) (s : State) → Head (λ (x : Volume). o < x.token) l → Refused (holding o l f s) s
 unfolding holding
 refused-holding o [] f s h = inr refl
-refused-holding o (x ∷ xs) f s h = on_cond (λ (r : Out). Refused r s) (eqb o 0 || not (eqb o x.token)) (λ u. inl refl) (λ u. absurd (omega (arith, eqb→eq o x.token (differs (eqb o 0) (eqb o x.token) u))))
+refused-holding o (x ∷ xs) f s h = on_cond (λ (r : Out). Refused r s) (eqb o 0 || not (eqb o x.token)) (λ u. inl refl) (λ u. absurd (grind arith))
 
 pub old_tokens_refused : OldTokensRefused
 unfolding does
