@@ -62,7 +62,7 @@ module _ {M O R : Type 0} (h : House M O R) (q : Pure M O R) (all size limit : �
         }
     reach l b (doing i m s p news mem from t e wires new to) =
         let y = reach l (omega arith) t in let z = is_on y i m s e in
-        step y i z.0 z.1 (From p.from p.what) m s (in_group all group within mem) b z.3 (doing' i z.0 z.1 p news mem from y.helped z.2 (sym y.beside.wire_is ∙ wires ∙ ap (λ x. news ++ x) l.wire_is) new to)
+        step y i z.0 z.1 (From p.from p.what) m s (in_group all group within mem) b z.3 (doing' i z.0 z.1 p news mem from y.helped z.2 (cc (y.beside.wire_is, wires, l.wire_is)) new to)
     reach l b (ticking i m s mem t e) =
         let y = reach l (omega arith) t in let z = is_on y i m s e in
         step y i z.0 z.1 Tick m s (in_group all group within mem) b z.3 (ticking' i z.0 z.1 mem y.helped z.2)

@@ -58,20 +58,20 @@ module _ {M O R : Type 0} (h : House M O R) (q : Pure M O R) (all size limit : �
 
     -- a call is made
     was-asked : (c : ℕ) → Beside n (Cluster.asking i c w) (asking i c u)
-    was-asked c = record { houses = l.houses; wire_is = l.wire_is; pending_is = ap (λ y. record { house = i; id = c } ∷ y) l.pending_is }
+    was-asked c = record { houses = l.houses; wire_is = l.wire_is; pending_is = cc l.pending_is }
 
     -- an event came to its end
     pub ended : (r : Ran (record { out : List (Out M R); mem : h.Mem })) (x : record { stored : q.D; mem : q.Mem; out : List (Out M R) }) → r.value.out ≡ x.out → sim.On (suc n) i x.mem x.stored r.value.mem r.device → Beside (suc n) (Cluster.after {O = O} h i r w) (after q i x u)
     ended r x e o =
         record {
           houses = goes_on _ _ o;
-          wire_is = ap (λ (z : List (Out M R)). packets i z ++ u.wire) (sym e) ∙ ap (λ z. packets i r.value.out ++ z) l.wire_is;
-          pending_is = ap (λ (z : List (Out M R)). settled i z u.pending) (sym e) ∙ ap (settled i r.value.out) l.pending_is;
+          wire_is = cc (e, l.wire_is);
+          pending_is = cc (e, l.pending_is);
         }
 
     -- power failed
     fell-down : (s : q.D) (f : Device) → sim.Off (suc n) i s f → Beside (suc n) (Cluster.fallen i f w) (fallen i s u)
-    fell-down s f o = record { houses = goes_on _ _ o; wire_is = l.wire_is; pending_is = ap (away_from i) l.pending_is }
+    fell-down s f o = record { houses = goes_on _ _ o; wire_is = l.wire_is; pending_is = cc l.pending_is }
 
     -- power came
     pub came_up : (s : q.D) (d : Device) → sim.On (suc n) i (q.opens i all s).mem (q.opens i all s).stored (run (h.opens i all size) d).value (run (h.opens i all size) d).device → Beside (suc n) (Cluster.risen {O = O} h all size i d w) (risen q all i s u)
