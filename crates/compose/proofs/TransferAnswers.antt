@@ -31,10 +31,10 @@ module _ {M O R : Type 0} (h : House M O R) (q : Pure M O R) (all size limit : �
 
     module _ {steps : ℕ} {es fs : List (Seen O R)} {v : World q.Mem q.D M} (y : Reached steps es fs v) (i : ℕ) where
       is_on : (m : q.Mem) (s : q.D) → v.house i ≡ on m s → (k : h.Mem) × (d : Device) × (y.world.house i ≡ on' k d) × sim.On y.count i m s k d
-      is_on m s e = find_on y.count i m s (y.world.house i) (subst (λ z. Match h q all size limit sim y.count i (y.world.house i) z) e (y.beside.houses i))
+      is_on m s e = find_on y.count i m s (y.world.house i) (rw e at (y.beside.houses i))
 
       is_off : (s : q.D) → v.house i ≡ off s → (d : Device) × (y.world.house i ≡ off' d) × sim.Off y.count i s d
-      is_off s e = find_off y.count i s (y.world.house i) (subst (λ z. Match h q all size limit sim y.count i (y.world.house i) z) e (y.beside.houses i))
+      is_off s e = find_off y.count i s (y.world.house i) (rw e at (y.beside.houses i))
 
       -- an event came to its end
       step : (k : h.Mem) (d : Device) (x : In M O) (m : q.Mem) (s : q.D) → i < all → n + suc steps < limit → sim.On y.count i m s k d →
@@ -45,7 +45,7 @@ module _ {M O R : Type 0} (h : House M O R) (q : Pure M O R) (all size limit : �
             count = suc y.count;
             counted = omega (arith, y.counted);
             world = _;
-            helped = subst (λ (z : List (Out M R)). Helped h all size group es w (tells i z ++ fs) (Cluster.after {O = O} h i (run (h.does x k) d) y.world)) e he;
+            helped = rw (← e) he;
             beside = ended h q all size limit sim y.count y.world v y.beside i (run (h.does x k) d) (q.does x m s) e (sim.does y.count i m s k d x hi (omega (arith, y.counted)) o);
           }
 
@@ -72,4 +72,4 @@ carries-answers M O R h q limit bound far sim one all size a b c d n es w lt t g
     let y = alike h (q all size) all size limit (sim all size a b c d) (omega arith) t in
     let (fs, v, steps, few, he, all_told) = one all size all a b es y.world y.trace group dist within len in
     let z = reach h (q all size) all size limit (sim all size a b c d) group within n w y.beside (omega arith) he in
-    (fs, z.world, z.helped, λ x m g. all_told x (subst (Memᴰ x) (sym y.beside.pending_is) m) g)
+    (fs, z.world, z.helped, λ x m g. all_told x (rw y.beside.pending_is m) g)

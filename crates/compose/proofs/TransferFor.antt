@@ -47,10 +47,10 @@ module _ {M O R : Type 0} (h : House M O R) (q : Pure M O R) (all size limit : �
 
   module _ (n : ℕ) (w : Cluster.World h.Mem M) (u : World q.Mem q.D M) (l : Beside n w u) (i : ℕ) where
     is_on : (k : h.Mem) (d : Device) → w.house i ≡ on' k d → (m : q.Mem) × (s : q.D) × (u.house i ≡ on m s) × sim.On n i m s k d
-    is_on k d e = find_on n i k d (u.house i) (subst (λ z. Match n i z (u.house i)) e (l.houses i))
+    is_on k d e = find_on n i k d (u.house i) (rw e at (l.houses i))
 
     is_off : (d : Device) → w.house i ≡ off' d → (s : q.D) × (u.house i ≡ off s) × sim.Off n i s d
-    is_off d e = find_off n i d (u.house i) (subst (λ z. Match n i z (u.house i)) e (l.houses i))
+    is_off d e = find_off n i d (u.house i) (rw e at (l.houses i))
 
     -- one house comes to be so, and the others stay
     goes_on : (a : Cluster.Stand h.Mem) (b : Stand q.Mem q.D) → Match (suc n) i a b → (j : ℕ) → Match (suc n) j (put i a w.house j) (put i b u.house j)
@@ -78,7 +78,7 @@ module _ {M O R : Type 0} (h : House M O R) (q : Pure M O R) (all size limit : �
     came_up s d o = record { houses = goes_on _ _ o; wire_is = l.wire_is; pending_is = l.pending_is }
 
     on_wire : (p : Packet M) → Memᴰ p w.wire → Memᴰ p u.wire
-    on_wire p m = subst (Memᴰ p) (sym l.wire_is) m
+    on_wire p m = rw l.wire_is m
 
     either : (es : List (Seen O R)) (s s' : q.D) (f : Device) → sim.Off (suc n) i s f ⊎ sim.Off (suc n) i s' f → ((z : q.D) → (z ≡ s) ⊎ (z ≡ s') → Trace q all (fell i ∷ es) (fallen i z u)) → Like (suc n) (fell i ∷ es) (Cluster.fallen i f w)
     either es s s' f (inl o) t = record { world = fallen i s u; trace = t s (inl refl); beside = fell-down s f o }
@@ -91,7 +91,7 @@ module _ {M O R : Type 0} (h : House M O R) (q : Pure M O R) (all size limit : �
         let e = sim.out_is n i m s k d x o in
         record {
           world = after q i (q.does x m s) u;
-          trace = subst (λ (z : List (Out M R)). Trace q all (tells i z ++ es) (after q i (q.does x m s) u)) (sym e) t;
+          trace = rw e t;
           beside = ended (run (h.does x k) d) (q.does x m s) e (sim.does n i m s k d x hi b o);
         }
 
@@ -122,8 +122,8 @@ carries_for M O R h q p limit far sim = (
   λ r one all size a b c d n es w l t i k m v x e f.
       let y = alike h (q all size) all size limit (sim all size a b c d) (omega arith) t in
       let o = is_on h (q all size) all size limit (sim all size a b c d) n w y.world y.beside i m v e in
-      let z = one all size all a es y.world y.trace i k o.0 o.1 x o.2 (subst (Memᴰ (Tell k r)) ((sim all size a b c d).out_is n i o.0 o.1 m v x o.3) f) in
-      (z.0, z.1, subst (λ (u : List Asking). 8 ≤ count_at i u) y.beside.pending_is z.2),
+      let z = one all size all a es y.world y.trace i k o.0 o.1 x o.2 (rw ((sim all size a b c d).out_is n i o.0 o.1 m v x o.3) at f) in
+      (z.0, z.1, rw y.beside.pending_is at z.2),
 )
 
 pub carries_within_for : CarriesWithinFor
