@@ -1,6 +1,5 @@
-use Rattle.std.proofs.Common.{subst}
 use mathlib.Core.List.{[], ◌∷◌, ◌++◌}
-use Rattle.disks.specs.Cluster.{Linear, is_done}
+use Rattle.disks.specs.Cluster.{is_done}
 use Rattle.compose.specs.Many.{ManyAtOnce, AnyWaiting}
 use Rattle.compose.proofs.Sets.{take_split, mem_takes}
 
@@ -11,4 +10,4 @@ many_at_once O R p x es (d ∷ ds) ws s rs f c l = many_at_once O R p x es ds ws
 pub any_waiting : AnyWaiting
 any_waiting O R p es w ws s t r rs f c l m a =
     let (before, behind, e, _) = take_split (mem_takes m).1 in
-    (before, behind, e, is_done before behind w.house w.id w.call (subst (λ vs. Linear p es s vs rs f c) e l) a)
+    (before, behind, e, is_done before behind w.house w.id w.call (rw e at l) a)

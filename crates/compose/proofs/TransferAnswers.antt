@@ -1,8 +1,8 @@
 -- A house on a device that does what a pure house does answers if the pure house does: each step by which the pure houses are helped is
 -- one by which those on devices are, with the same told and the same packets sent since.
 use Rattle.std.specs.Prelude.{◌≡◌, refl, ℕ, suc, ◌+◌, ◌<◌, T}
-use Rattle.std.proofs.Common.{sym, ◌∙◌, ap, subst, arith}
-use mathlib.Core.List.{List, ◌++◌, Memᴰ}
+use Rattle.std.proofs.Common.{arith}
+use mathlib.Core.List.{List, ◌++◌}
 use Rattle.disks.specs.Device.{Device, run}
 use Rattle.disks.specs.Cluster
 use Rattle.disks.specs.Cluster.{In, From, Tick, Out, House, Seen, tells, inside, Helped, still as still', rising as rising', doing as doing', ticking as ticking', on as on', off as off'}

@@ -2,8 +2,8 @@
 -- house by house related, with the same packets under way and the same calls pending. So what holds of the pure traces holds of its own.
 -- A world of pure houses stands beside one of houses on devices by a record of its own (`Beside`), which a way of answering, that goes on
 -- from a trace, needs too.
-use Rattle.std.specs.Prelude.{◌≡◌, refl, ◌⊎◌, ℕ, suc, ◌<◌, ◌≤◌}
-use Rattle.std.proofs.Common.{sym, ◌∙◌, ap, subst, inl, inr, arith}
+use Rattle.std.specs.Prelude.{◌≡◌, refl, ◌⊎◌, ℕ, suc, ◌<◌}
+use Rattle.std.proofs.Common.{inl, inr, arith}
 use mathlib.Core.List.{List, ◌∷◌, ◌++◌, Memᴰ}
 use Rattle.disks.specs.Device.{Device, run, Ran}
 use Rattle.disks.specs.Cluster
@@ -127,13 +127,8 @@ carries_for M O R h q p limit far sim = (
 )
 
 pub carries_within_for : CarriesWithinFor
-carries_within_for M O R h q limit far sim inside all size a b c d n es w l t i hi = (
-  λ v e.
-      let y = alike h (q all size) all size limit (sim all size a b c d) (omega arith) t in
-      let o = is_off h (q all size) all size limit (sim all size a b c d) n w y.world y.beside i v e in
-      (inside all size a b c d).opens n i o.0 v hi o.2,
-  λ m v x e.
-      let y = alike h (q all size) all size limit (sim all size a b c d) (omega arith) t in
-      let o = is_on h (q all size) all size limit (sim all size a b c d) n w y.world y.beside i m v e in
-      (inside all size a b c d).does n i o.0 o.1 m v x o.3,
-)
+carries_within_for M O R h q limit far sim inside all size a b c d n es w l t i hi =
+    let y = alike h (q all size) all size limit (sim all size a b c d) (omega arith) t in (
+      λ v e. let o = is_off h (q all size) all size limit (sim all size a b c d) n w y.world y.beside i v e in (inside all size a b c d).opens n i o.0 v hi o.2,
+      λ m v x e. let o = is_on h (q all size) all size limit (sim all size a b c d) n w y.world y.beside i m v e in (inside all size a b c d).does n i o.0 o.1 m v x o.3,
+    )
