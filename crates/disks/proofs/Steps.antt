@@ -6,6 +6,7 @@ use Rattle.disks.specs.Device.{all_bytes}
 use Rattle.disks.specs.Disks.{Volume, Picture, State, keep, find, Call, Make, Attach, Read, Write, Sync, Picture', Copy, Drop, DropPicture, Out, no, is_volume, is_picture, with_volumes, in_volume, makes, attaches, holding, copies, drops_picture, does, CutVolumes, cut}
 use Rattle.disks.specs.Promise.{Run, still, onward, was_cut}
 
+-- the library's `cond_both`, for a test that holds or fails as the statements say it
 pub on_cond : {A : Type 0} (P : A → Type 0) (b : Bool) {x y : A} → (T b → P x) → (T (not b) → P y) → P (cond b x y)
 on_cond P true f g = f tt
 on_cond P false f g = g tt
