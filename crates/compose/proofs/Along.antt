@@ -1,6 +1,5 @@
-use Rattle.std.specs.Prelude.{List, ◌∷◌, ◌++◌, ℕ}
-use Rattle.std.proofs.Common.{sym, subst}
-use Rattle.disks.specs.Cluster.{Seen, answered, Waiting, Ready, Linear, at_first, makes, is_done, is_told, is_busy, has_fallen, is_cut}
+use Rattle.std.specs.Prelude.{List, ℕ}
+use Rattle.disks.specs.Cluster.{Seen, Waiting, Ready, Linear, at_first, makes, is_done, is_told, is_busy, has_fallen, is_cut}
 use Rattle.compose.specs.Along.{LinearAlong}
 
 pub linear_along : LinearAlong
@@ -16,7 +15,7 @@ linear_along O R p q sim es s ws rs f c l = go l
     go (is_told before behind i k r l) = let x = go l in (x.0, x.1, is_told before behind i k r x.2)
     go (is_busy {es = es} {s = s} {rs = rs} {f = f} {c = c} before behind i k o l) =
         let x = go l in
-        (x.0, x.1, subst (λ (b : R). Linear q (answered i k b ∷ es) x.0 (before ++ behind) rs f c) (sym sim.busy) (is_busy before behind i k o x.2))
+        (x.0, x.1, rw sim.busy (is_busy before behind i k o x.2))
     go (has_fallen i l) = let x = go l in (x.0, x.1, has_fallen i x.2)
     go (is_cut {s = s} {t = t} l h a) =
         let x = go l in

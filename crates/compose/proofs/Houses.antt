@@ -1,15 +1,22 @@
 -- Houses compose, as layers do, house by house: each house's part below has a trace of its own, and a step touches one house.
-use Rattle.std.specs.Prelude.{◌≡◌, refl, Bool, true, false, cond, ℕ, T, eqb}
+use Rattle.std.specs.Prelude.{◌≡◌, refl, true, cond, ℕ, suc, ◌≤◌, eqb}
 use Rattle.std.proofs.Math.Path.{ap}
-use Rattle.std.proofs.Common.{inl, inr, le_trans, eqb→eq, lit≤}
+use Rattle.std.proofs.Common.{inl, inr, le_trans, lit≤}
 use mathlib.Core.List.{List, [], ◌∷◌}
-use Rattle.std.proofs.Math.Dec.{eqb_refl}
 use Rattle.disks.specs.Device.{Device, AfterCut, Io, answer, run, Upto, Machine, Event, World, off, on, opened, opening_cut, between_cut, cut_between, cut_opening, Judge, Allowed, at_start, Keeps, Plan, then', through, Comes, CutShort, at_once}
 use Rattle.disks.specs.Device
 use Rattle.disks.specs.Cluster.{In, From, Ask, Tick, Out, Seen, Packet, Asking, House, put, packets, tells, settled, AsOne}
 use Rattle.disks.specs.Cluster
 use Rattle.disks.specs.Over.{HouseOn, house_over, StandOn, off', on', TraceOn, HousesCompose}
+use Rattle.compose.proofs.Put.{at_put, both-put}
+use Rattle.std.proofs.lemmas.Bool.{eq-eqb}
 use Rattle.compose.proofs.Compose.{run_then, upto_then, upto_map, Then, plan_done, plan-cut, at_opening, at_between}
+
+-- what the parts below may have come to, where the machine keeps to the judge
+pub kept : {C R : Type 0} (j : ℕ → Judge C R) (e : Machine C R) (size : ℕ) → Keeps j e → 65536 ≤ size → size ≤ 1099511627776 → {gs : ℕ → List (Event C R)} {w : ℕ → World e} → ((k : ℕ) → Device.Trace e size (gs k) (w k)) → (σ : ℕ → (j size).State) × ((k : ℕ) → Allowed (j size) (gs k) (σ k))
+kept j e size keeps lo hi {gs} {w} trs =
+    let below = λ (k : ℕ). keeps size (le_trans (lit≤ tt) lo) hi (gs k) (w k) (trs k) in
+    (λ k. (below k).0, λ k. (below k).1)
 
 module _ {C R M O Q : Type 0} (j : ℕ → Judge C R) (e : Machine C R) (h : HouseOn C R M O Q) (all size : ℕ) where
   abbrev pub Mem : Type 0
@@ -40,32 +47,15 @@ module _ {C R M O Q : Type 0} (j : ℕ → Judge C R) (e : Machine C R) (h : Hou
   step {n} {es} house wire pending (gs, trs, back) i old new was P goes =
       let (g, tr, back') = goes (gs i) (rw was at (trs i)) in (
         put i g gs,
-        (λ k. traces g tr k (eqb k i)),
+        both-put (λ k fs x. Device.Trace e size fs (under x)) i g new gs house tr trs,
         λ σ ok.
-            let (s, y, p) = back' (σ i) (at_i g σ (eqb i i) (eqb_refl i) (ok i)) in
-            let (hs, t, same) = back (put i s σ) (λ k. before g σ s y k (eqb k i) (eqb→eq k i) (ok k)) in
-            (s, p, hs, t, first_at s σ hs (eqb i i) (eqb_refl i) (same i), λ k. after g σ s hs k (eqb k i) (eqb→eq k i) (same k), λ k. (put i s σ k, same k)),
+            let (s, y, p) = back' (σ i) (rw yes at (ok i)) in
+            let (hs, t, same) = back (put i s σ) (λ k. at_put i (λ b k. Allowed (j size) (cond b g (gs k)) (σ k) → Allowed (j size) (gs k) (cond b s (σ k))) (λ _. y) k (λ x. x) (ok k)) in
+            (s, p, hs, t, rw (yes, was) at (same i), λ k. at_put i (λ b k. hs k ≡ stand (house k) (cond b s (σ k)) → cond b (stand new (σ i)) (hs k) ≡ stand (cond b new (house k)) (σ k)) (λ _. refl) k (λ x. x) (same k), λ k. (put i s σ k, same k)),
       )
     where
-      traces : (g : List (Event C R)) → Device.Trace e size g (under new) → (k : ℕ) (b : Bool) → Device.Trace e size (cond b g (gs k)) (under (cond b new (house k)))
-      traces g tr k true = tr
-      traces g tr k false = trs k
-
-      at_i : (g : List (Event C R)) (σ : ℕ → (j size).State) (b : Bool) → T b → Allowed (j size) (cond b g (gs i)) (σ i) → Allowed (j size) g (σ i)
-      at_i g σ true t x = x
-      at_i g σ false t x = absurd t
-
-      before : (g : List (Event C R)) (σ : ℕ → (j size).State) (s : (j size).State) → Allowed (j size) (gs i) s → (k : ℕ) (b : Bool) → (T b → k ≡ i) → Allowed (j size) (cond b g (gs k)) (σ k) → Allowed (j size) (gs k) (cond b s (σ k))
-      before g σ s y k true q x = rw (q tt) y
-      before g σ s y k false q x = x
-
-      first_at : (s : (j size).State) (σ : ℕ → (j size).State) (hs : ℕ → StandOn (j size) h) (b : Bool) → T b → hs i ≡ stand (house i) (cond b s (σ i)) → hs i ≡ stand old s
-      first_at s σ hs true t q = rw was at q
-      first_at s σ hs false t q = absurd t
-
-      after : (g : List (Event C R)) (σ : ℕ → (j size).State) (s : (j size).State) (hs : ℕ → StandOn (j size) h) (k : ℕ) (b : Bool) → (T b → k ≡ i) → hs k ≡ stand (house k) (cond b s (σ k)) → cond b (stand new (σ i)) (hs k) ≡ stand (cond b new (house k)) (σ k)
-      after g σ s hs k true q r = rw (q tt)
-      after g σ s hs k false q r = r
+      yes : eqb i i ≡ true
+      yes = eq-eqb i i refl
 
   at_first : {s : (j size).State} → Allowed (j size) [] s → (j size).start ≡ s
   at_first at_start = refl
@@ -102,40 +92,32 @@ module _ {C R M O Q : Type 0} (j : ℕ → Judge C R) (e : Machine C R) (h : Hou
       Then (j size) e size (off g) (λ t. (s : (j size).State) × Allowed (j size) gs s × (j size).Down s t)
   between m d g gs tr x = (cut_between ∷ gs, between_cut tr x, λ t y. at_between (j size) y)
 
+  -- one house goes on by an event of the houses above
+  event : {n : ℕ} {es fs : List (Seen O Q)} {wire : List (Packet M)} {pending : List Asking} (w : Cluster.World Mem M) → SimAt n es w → (i : ℕ) (old new : Cluster.Stand Mem) → w.house i ≡ old → (P : (j size).State → (j size).State → Type 0) →
+      ((gs : List (Event C R)) → Device.Trace e size gs (under old) → Then (j size) e size (under new) (λ t. (s : (j size).State) × Allowed (j size) gs s × P s t)) →
+      ((s t : (j size).State) (hs : ℕ → StandOn (j size) h) → P s t → TraceOn j h all size n es (record { house = hs; wire = w.wire; pending = w.pending }) → hs i ≡ stand old s →
+      TraceOn j h all size (suc n) fs (record { house = put i (stand new t) hs; wire = wire; pending = pending })) →
+      Sim (suc n) fs (put i new w.house) wire pending
+  event w x i old new was P goes makes =
+      let (gs, trs, back) = step w.house w.wire w.pending x i old new was P goes in
+      (gs, trs, λ σ ok. let (s, c, hs, t, at_i, rest, like) = back σ ok in (_, makes s (σ i) hs c t at_i, rest))
+
   pub sim : {n : ℕ} {es : List (Seen O Q)} {w : Cluster.World Mem M} → Cluster.Trace (house_over e h) all size n es w → SimAt n es w
   unfolding packets settled
   sim Cluster.Trace.begin = ((λ k. []), (λ k. Device.Trace.begin), λ σ ok. ((λ k. off' (j size).start), TraceOn.begin, λ k. ap off' (at_first (ok k))))
-  sim (Cluster.Trace.rises {w = w} i d lt tr was) =
-      let (gs, trs, back) = step w.house w.wire w.pending (sim tr) i _ _ was _ (up_done i d) in
-      (gs, trs, λ σ ok. let (s, c, hs, t, at_i, rest, like) = back σ ok in (_, TraceOn.rises i lt t at_i c, rest))
-  sim (Cluster.Trace.does {w = w} i m d p lt tr was mem to) =
-      let (gs, trs, back) = step w.house w.wire w.pending (sim tr) i _ _ was _ (done (From p.from p.what) m d) in
-      (gs, trs, λ σ ok. let (s, c, hs, t, at_i, rest, like) = back σ ok in (_, TraceOn.does i p _ lt t at_i mem to c, rest))
-  sim (Cluster.Trace.asked {w = w} i k o m d lt kt tr was new) =
-      let (gs, trs, back) = step w.house w.wire w.pending (sim tr) i _ _ was _ (done (Ask k o) m d) in
-      (gs, trs, λ σ ok. let (s, c, hs, t, at_i, rest, like) = back σ ok in (_, TraceOn.asked i k o _ lt kt t at_i new c, rest))
-  sim (Cluster.Trace.ticks {w = w} i m d lt tr was) =
-      let (gs, trs, back) = step w.house w.wire w.pending (sim tr) i _ _ was _ (done Tick m d) in
-      (gs, trs, λ σ ok. let (s, c, hs, t, at_i, rest, like) = back σ ok in (_, TraceOn.ticks i _ lt t at_i c, rest))
-  sim (Cluster.Trace.falls {w = w} i m d g lt tr was x) =
-      let (gs, trs, back) = step w.house w.wire w.pending (sim tr) i _ _ was _ (λ gs t. between m d g gs t x) in
-      (gs, trs, λ σ ok. let (s, c, hs, t, at_i, rest, like) = back σ ok in (_, TraceOn.falls i lt t at_i c, rest))
-  sim (Cluster.Trace.falls_rising {w = w} i d f g lt tr was u x) =
-      let (gs, trs, back) = step w.house w.wire w.pending (sim tr) i _ _ was _ (λ gs t. up-cut i d f g gs t u x) in
-      (gs, trs, λ σ ok. let (s, c, hs, t, at_i, rest, like) = back σ ok in (_, TraceOn.falls_rising i lt t at_i c, rest))
-  sim (Cluster.Trace.falls_doing {w = w} i m d f g p lt tr was mem to u x) =
-      let (gs, trs, back) = step w.house w.wire w.pending (sim tr) i _ _ was _ (λ gs t. cut_short (From p.from p.what) m d f g gs t u x) in
-      (gs, trs, λ σ ok. let (s, c, hs, t, at_i, rest, like) = back σ ok in (_, TraceOn.falls_doing i p lt t at_i mem to c, rest))
-  sim (Cluster.Trace.falls_asked {w = w} i k o m d f g lt kt tr was new u x) =
-      let (gs, trs, back) = step w.house w.wire w.pending (sim tr) i _ _ was _ (λ gs t. cut_short (Ask k o) m d f g gs t u x) in
-      (gs, trs, λ σ ok. let (s, c, hs, t, at_i, rest, like) = back σ ok in (_, TraceOn.falls_asked i k o lt kt t at_i new c, rest))
-  sim (Cluster.Trace.falls_ticking {w = w} i m d f g lt tr was u x) =
-      let (gs, trs, back) = step w.house w.wire w.pending (sim tr) i _ _ was _ (λ gs t. cut_short Tick m d f g gs t u x) in
-      (gs, trs, λ σ ok. let (s, c, hs, t, at_i, rest, like) = back σ ok in (_, TraceOn.falls_ticking i lt t at_i c, rest))
+  sim (Cluster.Trace.rises i d lt tr was) = event _ (sim tr) i _ _ was _ (up_done i d) (λ s t hs c x at_i. TraceOn.rises i lt x at_i c)
+  sim (Cluster.Trace.does i m d p lt tr was mem to) = event _ (sim tr) i _ _ was _ (done (From p.from p.what) m d) (λ s t hs c x at_i. TraceOn.does i p _ lt x at_i mem to c)
+  sim (Cluster.Trace.asked i k o m d lt kt tr was new) = event _ (sim tr) i _ _ was _ (done (Ask k o) m d) (λ s t hs c x at_i. TraceOn.asked i k o _ lt kt x at_i new c)
+  sim (Cluster.Trace.ticks i m d lt tr was) = event _ (sim tr) i _ _ was _ (done Tick m d) (λ s t hs c x at_i. TraceOn.ticks i _ lt x at_i c)
+  sim (Cluster.Trace.falls i m d g lt tr was a) = event _ (sim tr) i _ _ was _ (λ gs t. between m d g gs t a) (λ s t hs c x at_i. TraceOn.falls i lt x at_i c)
+  sim (Cluster.Trace.falls_rising i d f g lt tr was u a) = event _ (sim tr) i _ _ was _ (λ gs t. up-cut i d f g gs t u a) (λ s t hs c x at_i. TraceOn.falls_rising i lt x at_i c)
+  sim (Cluster.Trace.falls_doing i m d f g p lt tr was mem to u a) = event _ (sim tr) i _ _ was _ (λ gs t. cut_short (From p.from p.what) m d f g gs t u a) (λ s t hs c x at_i. TraceOn.falls_doing i p lt x at_i mem to c)
+  sim (Cluster.Trace.falls_asked i k o m d f g lt kt tr was new u a) = event _ (sim tr) i _ _ was _ (λ gs t. cut_short (Ask k o) m d f g gs t u a) (λ s t hs c x at_i. TraceOn.falls_asked i k o lt kt x at_i new c)
+  sim (Cluster.Trace.falls_ticking i m d f g lt tr was u a) = event _ (sim tr) i _ _ was _ (λ gs t. cut_short Tick m d f g gs t u a) (λ s t hs c x at_i. TraceOn.falls_ticking i lt x at_i c)
 
 pub houses_compose : HousesCompose
 houses_compose C R M O Q j p e h keeps one all size a b lo hi n es w lt tr =
     let (gs, trs, back) = sim j e h all size tr in
-    let under = λ (k : ℕ). keeps size (le_trans (lit≤ tt) lo) hi (gs k) _ (trs k) in
-    let (hs, t, same) = back (λ k. (under k).0) (λ k. (under k).1) in
+    let (σ, ok) = kept j e size keeps lo hi trs in
+    let (hs, t, same) = back σ ok in
     one all size a b lo hi n es _ lt t

@@ -30,14 +30,16 @@ module _ {C R : Type 0} (e : Machine C R) (size : ℕ) (opens : (es : List (Even
   fair_opening p f d gs tr = fair_then size (e.opens size) _ d (opens gs d tr) (fair_plan p f _ _ gs (opened tr))
 
 pub within-over : WithinOver
-within-over C R C' R' e l within size lo hi = (
-  (λ es d tr. let (gs, tr', x) = sim (anything C R) e l size tr in fair_opening e size (within size lo hi).0 (within size lo hi).1 (l.comes_up size) _ d gs tr'),
-  λ es m d tr c. let (gs, tr', x) = sim (anything C R) e l size tr in fair_plan e size (within size lo hi).0 (within size lo hi).1 (l.answers c m.above) _ m.below d gs tr',
-)
+within-over C R C' R' e l within size lo hi =
+    let (opens, does) = within size lo hi in (
+      (λ es d tr. let (gs, tr', x) = sim (anything C R) e l size tr in fair_opening e size opens does (l.comes_up size) _ d gs tr'),
+      λ es m d tr c. let (gs, tr', x) = sim (anything C R) e l size tr in fair_plan e size opens does (l.answers c m.above) _ m.below d gs tr',
+    )
 
 pub houses_within : HousesWithin
 houses_within C R M O Q e h within all size a b lo hi n es w lt tr i il =
-    let (gs, trs, back) = Houses.sim (λ k. anything C R) e h all size tr in (
-      (λ d was. fair_opening e size (within size (le_trans (lit≤ tt) lo) hi).0 (within size (le_trans (lit≤ tt) lo) hi).1 (h.opens i all size) _ d (gs i) (rw was at (trs i))),
-      λ m d x was. fair_plan e size (within size (le_trans (lit≤ tt) lo) hi).0 (within size (le_trans (lit≤ tt) lo) hi).1 (h.does x m.above) _ m.below d (gs i) (rw was at (trs i)),
+    let (gs, trs, back) = Houses.sim (λ k. anything C R) e h all size tr in
+    let (opens, does) = within size (le_trans (lit≤ tt) lo) hi in (
+      (λ d was. fair_opening e size opens does (h.opens i all size) _ d (gs i) (rw was at (trs i))),
+      λ m d x was. fair_plan e size opens does (h.does x m.above) _ m.below d (gs i) (rw was at (trs i)),
     )

@@ -1,3 +1,4 @@
+pub mod Put
 pub mod Compose
 pub mod Houses
 pub mod Inside
@@ -7,6 +8,6 @@ pub mod Along
 pub mod Many
 pub mod Sets
 pub mod Past
-pub mod Transfer
 pub mod TransferFor
+pub mod Transfer
 pub mod TransferAnswers

@@ -1,4 +1,3 @@
-use Rattle.std.proofs.Common.{subst}
 use mathlib.Core.List.Memᴰ
 use mathlib.Core.List.{List, [], ◌∷◌, ◌++◌, map, Memᴰ}
 use Rattle.std.specs.Prelude.{ℕ}
@@ -49,7 +48,7 @@ module _ {O R : Type 0} (p : Plain O R) where
   now_or_earlier t (w ∷ ws) (stays ch) = let (ls', ys', ch', now) = now_or_earlier t ws ch in (w.waiting ∷ ls', ys', stays ch', beside-call w.waiting now)
   now_or_earlier t (w ∷ ws) (reads {r = r} (Memᴰ.head e) a ch) =
       let (ls', ys', ch', now) = now_or_earlier t ws ch in
-      (w.waiting ∷ ls', ys', stays ch', and_then here here (subst (λ x. p.Answers w.waiting.call x r x) e a) (beside-answer (ready w.waiting r) now))
+      (w.waiting ∷ ls', ys', stays ch', and_then here here (rw e at a) (beside-answer (ready w.waiting r) now))
   now_or_earlier t (w ∷ ws) (reads {r = r} (Memᴰ.tail m) a ch) =
       let (ls', ys', ch', now) = now_or_earlier t ws ch in
       (ls', ready w.waiting r ∷ ys', reads m a ch', beside-answer (ready w.waiting r) now)
@@ -67,7 +66,7 @@ module _ {O R : Type 0} (p : Plain O R) where
   for_every_choice (makes i k o h) (stays ch) = let (rs', q, l) = for_every_choice h ch in (rs', q, Linear.makes i k o l)
   for_every_choice (makes {s = s} i k o h) (reads {ls = ls} {r = r} m a ch) =
       let (rs', q, l) = for_every_choice h ch in
-      (_, ins here q, Linear.is_done [] ls i k o (Linear.makes i k o l) (subst (λ x. p.Answers o x r x) (Memᴰ.eq_of_singleton m) a))
+      (_, ins here q, Linear.is_done [] ls i k o (Linear.makes i k o l) (rw (Memᴰ.eq_of_singleton m) at a))
   for_every_choice (is_done {t = t} {w = w} {ws' = ws'} {rs = rs} {r = r} h m a) ch =
       let (ls', ys', ch', now) = now_or_earlier t ws' ch in
       let (ls'', m', ch'') = one_stays m ch' in

@@ -1,7 +1,7 @@
 use Rattle.std.specs.Prelude.{◌≡◌, refl}
-use Rattle.std.proofs.Common.{ap, subst}
+use Rattle.std.proofs.Common.{ap}
 use mathlib.Core.List.{List, [], ◌∷◌, ◌++◌, Memᴰ}
-use Rattle.disks.specs.Cluster.{Linear, is_done, is_told, is_busy}
+use Rattle.disks.specs.Cluster.{is_done, is_told, is_busy}
 use Rattle.compose.specs.Sets.{Takes, here, there, taken, takes, Perm, nil, ins, ready, TakenDone, TakenTold, TakenBusy, TakenMany}
 
 -- what is taken out stands somewhere, and what stands somewhere can be taken out
@@ -10,7 +10,7 @@ take_split (here {ys = ys}) = ([], ys, refl, refl)
 take_split (there {z = z} t) = let (before, behind, e, g) = take_split t in (z ∷ before, behind, ap (λ zs. z ∷ zs) e, ap (λ zs. z ∷ zs) g)
 
 pub mem_takes : {A : Type 0} {x : A} {xs : List A} → Memᴰ x xs → (ys : List A) × Takes x xs ys
-mem_takes {A} {x} (Memᴰ.head {xs = xs} e) = (xs, subst (λ y. Takes x (y ∷ xs) xs) e here)
+mem_takes {A} {x} (Memᴰ.head {xs = xs} e) = (xs, rw (← e) here)
 mem_takes (Memᴰ.tail {x = y} m) = let (ys, t) = mem_takes m in (y ∷ ys, there t)
 
 pub takes_mem : {A : Type 0} {x : A} {xs ys : List A} → Takes x xs ys → Memᴰ x xs
@@ -67,17 +67,17 @@ perm_trans (ins t q) q' =
 pub taken_done : TakenDone
 taken_done O R p es w ws ws' s t r rs f c l m a =
     let (before, behind, e, g) = take_split m in
-    rw g (is_done before behind w.house w.id w.call (subst (λ vs. Linear p es s vs rs f c) e l) a)
+    rw g (is_done before behind w.house w.id w.call (rw e at l) a)
 
 pub taken-told : TakenTold
 taken-told O R p es ws s y rs rs' f c l m =
     let (before, behind, e, g) = take_split m in
-    rw g (is_told before behind y.house y.id y.reply (subst (λ vs. Linear p es s ws vs f c) e l))
+    rw g (is_told before behind y.house y.id y.reply (rw e at l))
 
 pub taken-busy : TakenBusy
 taken-busy O R p es w ws ws' s rs f c l m =
     let (before, behind, e, g) = take_split m in
-    rw g (is_busy before behind w.house w.id w.call (subst (λ vs. Linear p es s vs rs f c) e l))
+    rw g (is_busy before behind w.house w.id w.call (rw e at l))
 
 pub taken_many : TakenMany
 taken_many O R p x es ds ws ws' s rs f c l taken = l

@@ -1,8 +1,8 @@
 -- A house on a device that does what a pure house does answers if the pure house does: each step by which the pure houses are helped is
 -- one by which those on devices are, with the same told and the same packets sent since.
 use Rattle.std.specs.Prelude.{◌≡◌, refl, ℕ, suc, ◌+◌, ◌<◌, T}
-use Rattle.std.proofs.Common.{sym, ◌∙◌, ap, subst, arith}
-use mathlib.Core.List.{List, ◌++◌, Memᴰ}
+use Rattle.std.proofs.Common.{arith}
+use mathlib.Core.List.{List, ◌++◌}
 use Rattle.disks.specs.Device.{Device, run}
 use Rattle.disks.specs.Cluster
 use Rattle.disks.specs.Cluster.{In, From, Tick, Out, House, Seen, tells, inside, Helped, still as still', rising as rising', doing as doing', ticking as ticking', on as on', off as off'}
@@ -31,10 +31,10 @@ module _ {M O R : Type 0} (h : House M O R) (q : Pure M O R) (all size limit : �
 
     module _ {steps : ℕ} {es fs : List (Seen O R)} {v : World q.Mem q.D M} (y : Reached steps es fs v) (i : ℕ) where
       is_on : (m : q.Mem) (s : q.D) → v.house i ≡ on m s → (k : h.Mem) × (d : Device) × (y.world.house i ≡ on' k d) × sim.On y.count i m s k d
-      is_on m s e = find_on y.count i m s (y.world.house i) (subst (λ z. Match h q all size limit sim y.count i (y.world.house i) z) e (y.beside.houses i))
+      is_on m s e = find_on y.count i m s (y.world.house i) (rw e at (y.beside.houses i))
 
       is_off : (s : q.D) → v.house i ≡ off s → (d : Device) × (y.world.house i ≡ off' d) × sim.Off y.count i s d
-      is_off s e = find_off y.count i s (y.world.house i) (subst (λ z. Match h q all size limit sim y.count i (y.world.house i) z) e (y.beside.houses i))
+      is_off s e = find_off y.count i s (y.world.house i) (rw e at (y.beside.houses i))
 
       -- an event came to its end
       step : (k : h.Mem) (d : Device) (x : In M O) (m : q.Mem) (s : q.D) → i < all → n + suc steps < limit → sim.On y.count i m s k d →
@@ -45,7 +45,7 @@ module _ {M O R : Type 0} (h : House M O R) (q : Pure M O R) (all size limit : �
             count = suc y.count;
             counted = omega (arith, y.counted);
             world = _;
-            helped = subst (λ (z : List (Out M R)). Helped h all size group es w (tells i z ++ fs) (Cluster.after {O = O} h i (run (h.does x k) d) y.world)) e he;
+            helped = rw (← e) he;
             beside = ended h q all size limit sim y.count y.world v y.beside i (run (h.does x k) d) (q.does x m s) e (sim.does y.count i m s k d x hi (omega (arith, y.counted)) o);
           }
 
@@ -62,7 +62,7 @@ module _ {M O R : Type 0} (h : House M O R) (q : Pure M O R) (all size limit : �
         }
     reach l b (doing i m s p news mem from t e wires new to) =
         let y = reach l (omega arith) t in let z = is_on y i m s e in
-        step y i z.0 z.1 (From p.from p.what) m s (in_group all group within mem) b z.3 (doing' i z.0 z.1 p news mem from y.helped z.2 (sym y.beside.wire_is ∙ wires ∙ ap (λ x. news ++ x) l.wire_is) new to)
+        step y i z.0 z.1 (From p.from p.what) m s (in_group all group within mem) b z.3 (doing' i z.0 z.1 p news mem from y.helped z.2 (cc (y.beside.wire_is, wires, l.wire_is)) new to)
     reach l b (ticking i m s mem t e) =
         let y = reach l (omega arith) t in let z = is_on y i m s e in
         step y i z.0 z.1 Tick m s (in_group all group within mem) b z.3 (ticking' i z.0 z.1 mem y.helped z.2)
@@ -72,4 +72,4 @@ carries-answers M O R h q limit bound far sim one all size a b c d n es w lt t g
     let y = alike h (q all size) all size limit (sim all size a b c d) (omega arith) t in
     let (fs, v, steps, few, he, all_told) = one all size all a b es y.world y.trace group dist within len in
     let z = reach h (q all size) all size limit (sim all size a b c d) group within n w y.beside (omega arith) he in
-    (fs, z.world, z.helped, λ x m g. all_told x (subst (Memᴰ x) (sym y.beside.pending_is) m) g)
+    (fs, z.world, z.helped, λ x m g. all_told x (rw y.beside.pending_is m) g)

@@ -1,13 +1,15 @@
--- The same as in `Transfer`, for a house that simulates for as many steps as a limit says. A world of pure houses stands beside one of
--- houses on devices by a record of its own (`Beside`), which a way of answering, that goes on from a trace, needs too.
-use Rattle.std.specs.Prelude.{◌≡◌, refl, ◌⊎◌, ℕ, suc, ◌<◌, ◌≤◌}
-use Rattle.std.proofs.Common.{sym, ◌∙◌, ap, subst, inl, inr, arith}
+-- A house on a device that does what a pure house does, for as many steps as a limit says: each of its traces is one of the pure house's,
+-- house by house related, with the same packets under way and the same calls pending. So what holds of the pure traces holds of its own.
+-- A world of pure houses stands beside one of houses on devices by a record of its own (`Beside`), which a way of answering, that goes on
+-- from a trace, needs too.
+use Rattle.std.specs.Prelude.{◌≡◌, refl, ◌⊎◌, ℕ, suc, ◌<◌}
+use Rattle.std.proofs.Common.{inl, inr, arith}
 use mathlib.Core.List.{List, ◌∷◌, ◌++◌, Memᴰ}
 use Rattle.disks.specs.Device.{Device, run, Ran}
 use Rattle.disks.specs.Cluster
 use Rattle.disks.specs.Cluster.{In, From, Ask, Tick, Out, Tell, House, Seen, called, fell, Packet, Asking, put, packets, tells, settled, away_from, count_at, Plain, Waiting, Ready, Linear, AsOne, BusyAtNine, Within, begin as begin', rises as rises', does as does', asked as asked', ticks as ticks', falls as falls', falls_rising as falls_rising', falls_doing as falls_doing', falls_asked as falls_asked', falls_ticking as falls_ticking', on as on', off as off'}
 use Rattle.compose.specs.Pure.{Pure, Stand, off, on, World, Trace, begin, rises, does, asked, ticks, falls, falls_rising, falls_doing, falls_asked, falls_ticking, after, fallen, risen, asking}
-use Rattle.compose.proofs.Transfer.{both-put}
+use Rattle.compose.proofs.Put.{both-put}
 use Rattle.compose.specs.SimulationFor.{SimulatesFor, CarriesFor, CarriesWithinFor}
 
 module _ {M O R : Type 0} (h : House M O R) (q : Pure M O R) (all size limit : ℕ) (sim : SimulatesFor h q all size limit) where
@@ -45,34 +47,38 @@ module _ {M O R : Type 0} (h : House M O R) (q : Pure M O R) (all size limit : �
 
   module _ (n : ℕ) (w : Cluster.World h.Mem M) (u : World q.Mem q.D M) (l : Beside n w u) (i : ℕ) where
     is_on : (k : h.Mem) (d : Device) → w.house i ≡ on' k d → (m : q.Mem) × (s : q.D) × (u.house i ≡ on m s) × sim.On n i m s k d
-    is_on k d e = find_on n i k d (u.house i) (subst (λ z. Match n i z (u.house i)) e (l.houses i))
+    is_on k d e = find_on n i k d (u.house i) (rw e at (l.houses i))
 
     is_off : (d : Device) → w.house i ≡ off' d → (s : q.D) × (u.house i ≡ off s) × sim.Off n i s d
-    is_off d e = find_off n i d (u.house i) (subst (λ z. Match n i z (u.house i)) e (l.houses i))
+    is_off d e = find_off n i d (u.house i) (rw e at (l.houses i))
+
+    -- one house comes to be so, and the others stay
+    goes_on : (a : Cluster.Stand h.Mem) (b : Stand q.Mem q.D) → Match (suc n) i a b → (j : ℕ) → Match (suc n) j (put i a w.house j) (put i b u.house j)
+    goes_on a b o = both-put (Match (suc n)) i a b w.house u.house o (λ j. later n j (w.house j) (u.house j) (l.houses j))
 
     -- a call is made
     was-asked : (c : ℕ) → Beside n (Cluster.asking i c w) (asking i c u)
-    was-asked c = record { houses = l.houses; wire_is = l.wire_is; pending_is = ap (λ y. record { house = i; id = c } ∷ y) l.pending_is }
+    was-asked c = record { houses = l.houses; wire_is = l.wire_is; pending_is = cc l.pending_is }
 
     -- an event came to its end
     pub ended : (r : Ran (record { out : List (Out M R); mem : h.Mem })) (x : record { stored : q.D; mem : q.Mem; out : List (Out M R) }) → r.value.out ≡ x.out → sim.On (suc n) i x.mem x.stored r.value.mem r.device → Beside (suc n) (Cluster.after {O = O} h i r w) (after q i x u)
     ended r x e o =
         record {
-          houses = both-put (Match (suc n)) i _ _ w.house u.house o (λ j. later n j (w.house j) (u.house j) (l.houses j));
-          wire_is = ap (λ (z : List (Out M R)). packets i z ++ u.wire) (sym e) ∙ ap (λ z. packets i r.value.out ++ z) l.wire_is;
-          pending_is = ap (λ (z : List (Out M R)). settled i z u.pending) (sym e) ∙ ap (settled i r.value.out) l.pending_is;
+          houses = goes_on _ _ o;
+          wire_is = cc (e, l.wire_is);
+          pending_is = cc (e, l.pending_is);
         }
 
     -- power failed
     fell-down : (s : q.D) (f : Device) → sim.Off (suc n) i s f → Beside (suc n) (Cluster.fallen i f w) (fallen i s u)
-    fell-down s f o = record { houses = both-put (Match (suc n)) i _ _ w.house u.house o (λ j. later n j (w.house j) (u.house j) (l.houses j)); wire_is = l.wire_is; pending_is = ap (away_from i) l.pending_is }
+    fell-down s f o = record { houses = goes_on _ _ o; wire_is = l.wire_is; pending_is = cc l.pending_is }
 
     -- power came
     pub came_up : (s : q.D) (d : Device) → sim.On (suc n) i (q.opens i all s).mem (q.opens i all s).stored (run (h.opens i all size) d).value (run (h.opens i all size) d).device → Beside (suc n) (Cluster.risen {O = O} h all size i d w) (risen q all i s u)
-    came_up s d o = record { houses = both-put (Match (suc n)) i _ _ w.house u.house o (λ j. later n j (w.house j) (u.house j) (l.houses j)); wire_is = l.wire_is; pending_is = l.pending_is }
+    came_up s d o = record { houses = goes_on _ _ o; wire_is = l.wire_is; pending_is = l.pending_is }
 
     on_wire : (p : Packet M) → Memᴰ p w.wire → Memᴰ p u.wire
-    on_wire p m = subst (Memᴰ p) (sym l.wire_is) m
+    on_wire p m = rw l.wire_is m
 
     either : (es : List (Seen O R)) (s s' : q.D) (f : Device) → sim.Off (suc n) i s f ⊎ sim.Off (suc n) i s' f → ((z : q.D) → (z ≡ s) ⊎ (z ≡ s') → Trace q all (fell i ∷ es) (fallen i z u)) → Like (suc n) (fell i ∷ es) (Cluster.fallen i f w)
     either es s s' f (inl o) t = record { world = fallen i s u; trace = t s (inl refl); beside = fell-down s f o }
@@ -85,7 +91,7 @@ module _ {M O R : Type 0} (h : House M O R) (q : Pure M O R) (all size limit : �
         let e = sim.out_is n i m s k d x o in
         record {
           world = after q i (q.does x m s) u;
-          trace = subst (λ (z : List (Out M R)). Trace q all (tells i z ++ es) (after q i (q.does x m s) u)) (sym e) t;
+          trace = rw e t;
           beside = ended (run (h.does x k) d) (q.does x m s) e (sim.does n i m s k d x hi b o);
         }
 
@@ -116,18 +122,13 @@ carries_for M O R h q p limit far sim = (
   λ r one all size a b c d n es w l t i k m v x e f.
       let y = alike h (q all size) all size limit (sim all size a b c d) (omega arith) t in
       let o = is_on h (q all size) all size limit (sim all size a b c d) n w y.world y.beside i m v e in
-      let z = one all size all a es y.world y.trace i k o.0 o.1 x o.2 (subst (Memᴰ (Tell k r)) ((sim all size a b c d).out_is n i o.0 o.1 m v x o.3) f) in
-      (z.0, z.1, subst (λ (u : List Asking). 8 ≤ count_at i u) y.beside.pending_is z.2),
+      let z = one all size all a es y.world y.trace i k o.0 o.1 x o.2 (rw ((sim all size a b c d).out_is n i o.0 o.1 m v x o.3) at f) in
+      (z.0, z.1, rw y.beside.pending_is at z.2),
 )
 
 pub carries_within_for : CarriesWithinFor
-carries_within_for M O R h q limit far sim inside all size a b c d n es w l t i hi = (
-  λ v e.
-      let y = alike h (q all size) all size limit (sim all size a b c d) (omega arith) t in
-      let o = is_off h (q all size) all size limit (sim all size a b c d) n w y.world y.beside i v e in
-      (inside all size a b c d).opens n i o.0 v hi o.2,
-  λ m v x e.
-      let y = alike h (q all size) all size limit (sim all size a b c d) (omega arith) t in
-      let o = is_on h (q all size) all size limit (sim all size a b c d) n w y.world y.beside i m v e in
-      (inside all size a b c d).does n i o.0 o.1 m v x o.3,
-)
+carries_within_for M O R h q limit far sim inside all size a b c d n es w l t i hi =
+    let y = alike h (q all size) all size limit (sim all size a b c d) (omega arith) t in (
+      λ v e. let o = is_off h (q all size) all size limit (sim all size a b c d) n w y.world y.beside i v e in (inside all size a b c d).opens n i o.0 v hi o.2,
+      λ m v x e. let o = is_on h (q all size) all size limit (sim all size a b c d) n w y.world y.beside i m v e in (inside all size a b c d).does n i o.0 o.1 m v x o.3,
+    )

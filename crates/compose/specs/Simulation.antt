@@ -1,5 +1,6 @@
 -- When a house on a device does what a pure house does: a relation between devices and what is stored that holds at every place where
--- the house may be cut, for what was stored before the event or after it.
+-- the house may be cut, for what was stored before the event or after it. `SimulationFor` says the same for any limit: these statements
+-- stand beside it in their own words, and follow from it in proofs/Transfer.
 -- Assumes nothing.
 use Rattle.std.specs.Prelude.{◌≡◌, ◌⊎◌, ℕ, suc, ◌<◌, ◌≤◌}
 use Rattle.disks.specs.Device.{Device, blank_device, run, Upto, AfterCut, Fair}

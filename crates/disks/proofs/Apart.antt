@@ -1,19 +1,17 @@
 -- Volumes are apart: what is called of one leaves what is found under another's number.
-use mathlib.Core.Path.{◌≡◌, refl, ap, sym, ◌∙◌}
-use mathlib.Core.Bool.{Bool, true, false, cond, ◌&&◌, ◌||◌, not}
+use Rattle.std.specs.Prelude.{◌≡◌, refl, Bool, cond, ◌&&◌, ◌||◌, not, ℕ, eqb, ltb, leb, T, length}
+use Rattle.std.proofs.Common.{ap, sym, ◌∙◌, eqb→eq, arith}
 use mathlib.Core.List.{List, [], ◌∷◌, Memᴰ}
-use Prim.Native.Nat.{ℕ}
-use lib.Dec.{eqb, ltb, leb, T, eqb→eq}
-use lib.ListN.{length}
 use Rattle.disks.specs.Device.{all_bytes}
 use Rattle.disks.specs.Disks.{Volume, Picture, State, blank, keep, find, change, Call, Make, Attach, Read, Write, Sync, Picture', Copy, Drop, DropPicture, Reply, No, Yes, Num, Token, Sector, Full, Out, no, is_volume, is_picture, with_volumes, with_disk, in_volume, device_of, makes, attaches, holding, inside, takes_picture, copies, drops_picture, does, cut_to, CutVolumes, no_more, left, is_cut, Cut, cut}
 use Rattle.disks.specs.Promise.{Apart, ApartAll}
-use Rattle.disks.proofs.Steps.{on_cond, on_holding, not_both}
-use Rattle.disks.proofs.Found.{Head, at, all_heads, head_num, on_found}
+use Rattle.disks.proofs.Steps.{on_cond, on_holding}
+use Rattle.std.proofs.Math.Facts.{T_not, T_not-not}
+use Rattle.disks.proofs.Found.{Head, at, head_num}
 
 change-others : {A : Type 0} (f : A → Bool) (g : A → A) {w : A} {xs : List A} → Memᴰ w xs → T (not (f w)) → Memᴰ w (change f g xs)
 unfolding change
-change-others f g {w} (Memᴰ.head {x = x} {xs = xs} e) t = on_cond (Memᴰ w) (f x) (λ u. absurd (not_both (f x) u (rw e at t))) (λ u. Memᴰ.head e)
+change-others f g {w} (Memᴰ.head {x = x} {xs = xs} e) t = on_cond (Memᴰ w) (f x) (λ u. absurd (T_not (f x) u (rw e at t))) (λ u. Memᴰ.head e)
 change-others f g {w} (Memᴰ.tail {x = x} {xs = xs} m) t = on_cond (Memᴰ w) (f x) (λ u. Memᴰ.tail m) (λ u. Memᴰ.tail (change-others f g m t))
 
 pub apart : Apart
@@ -29,31 +27,24 @@ apart s v t n b w mem other = ((writes.0, syncs.0), (writes.1, syncs.1))
     syncs : P (does (Sync v t) s)
     syncs = on_holding P t (find (is_volume v) s.volumes) _ s (mem, refl) (mem, refl) (λ x. (change-others (is_volume v) _ mem other, refl))
 
-cond_no : {A : Type 0} (b : Bool) (x y : A) → (T b → ⊥) → cond b x y ≡ y
-cond_no true x y h = absurd (h tt)
-cond_no false x y h = refl
-
 module _ (u v : ℕ) (other : u ≡ v → ⊥) where
+  passed_over : (y : Volume) (ys : List Volume) → v ≡ y.num → find (is_volume u) (y ∷ ys) ≡ find (is_volume u) ys
+  unfolding find
+  passed_over y ys e = on_cond (λ zs. zs ≡ find (is_volume u) ys) (eqb u y.num) (λ t. absurd (other (grind arith))) (λ _. refl)
+
   find-change : (f : Volume → Volume) → ((x : Volume) → (f x).num ≡ x.num) → (vs : List Volume) → find (is_volume u) (change (is_volume v) f vs) ≡ find (is_volume u) vs
   unfolding find change
   find-change f nums [] = refl
-  find-change f nums (x ∷ xs) = go (eqb v x.num) (eqb→eq v x.num) (find-change f nums xs)
-    where
-      go : (b : Bool) → (T b → v ≡ x.num) → find (is_volume u) (change (is_volume v) f xs) ≡ find (is_volume u) xs → find (is_volume u) (cond b (f x ∷ xs) (x ∷ change (is_volume v) f xs)) ≡ find (is_volume u) (x ∷ xs)
-      go true p ih = cond_no (eqb u (f x).num) (f x ∷ []) (find (is_volume u) xs) (λ t. other (eqb→eq u (f x).num t ∙ nums x ∙ sym (p tt))) ∙ sym (cond_no (eqb u x.num) (x ∷ []) (find (is_volume u) xs) (λ t. other (eqb→eq u x.num t ∙ sym (p tt))))
-      go false p ih = ap (cond (eqb u x.num) (x ∷ [])) ih
+  find-change f nums (x ∷ xs) =
+      on_cond (λ zs. find (is_volume u) zs ≡ find (is_volume u) (x ∷ xs)) (eqb v x.num) (λ t. let e = eqb→eq v x.num t in passed_over (f x) xs (e ∙ sym (nums x)) ∙ sym (passed_over x xs e))
+      (λ _. ap (cond (eqb u x.num) (x ∷ [])) (find-change f nums xs))
 
   find-keep : (vs : List Volume) → find (is_volume u) (keep (λ (y : Volume). not (is_volume v y)) vs) ≡ find (is_volume u) vs
   unfolding find keep
   find-keep [] = refl
-  find-keep (x ∷ xs) = go (eqb v x.num) (eqb→eq v x.num) (find-keep xs)
-    where
-      rest : List Volume
-      rest = keep (λ (y : Volume). not (is_volume v y)) xs
-
-      go : (b : Bool) → (T b → v ≡ x.num) → find (is_volume u) rest ≡ find (is_volume u) xs → find (is_volume u) (cond (not b) (x ∷ rest) rest) ≡ find (is_volume u) (x ∷ xs)
-      go true p ih = ih ∙ sym (cond_no (eqb u x.num) (x ∷ []) (find (is_volume u) xs) (λ t. other (eqb→eq u x.num t ∙ sym (p tt))))
-      go false p ih = ap (cond (eqb u x.num) (x ∷ [])) ih
+  find-keep (x ∷ xs) =
+      on_cond (λ zs. find (is_volume u) zs ≡ find (is_volume u) (x ∷ xs)) (not (eqb v x.num)) (λ _. ap (cond (eqb u x.num) (x ∷ [])) (find-keep xs))
+      (λ t. find-keep xs ∙ sym (passed_over x xs (eqb→eq v x.num (T_not-not _ t))))
 
 pub apart_all : ApartAll
 unfolding does attaches
@@ -63,7 +54,7 @@ apart_all s v u t n b other = (attaching (at v s) (head_num v s.volumes), writin
     P o = find (is_volume u) o.state.volumes ≡ find (is_volume u) s.volumes
 
     held : (f : Volume → Out) → ((x : Volume) → P (f x)) → P (Rattle.disks.specs.Disks.holding t (at v s) f s)
-    held f h = on_found P (λ (x : Volume). Unit {0}) t (at v s) f s refl refl (all_heads _ (at v s) (λ x. tt)) (λ x y. h x)
+    held f h = on_holding P t (at v s) f s refl refl h
 
     writing : P (does (Write v t n b) s)
     writing = on_cond P (not (eqb (length b) 512 && all_bytes b)) (λ _. refl) (λ _. held _ (λ x. on_cond P (ltb n x.size) (λ _. find-change u v other _ (λ y. refl) s.volumes) (λ _. refl)))

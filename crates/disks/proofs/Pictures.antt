@@ -1,31 +1,23 @@
 -- Pictures stand. Numbers of pictures are each one's own and below the next; from a state on, what is there was there or is newer. So a
 -- picture with an old number is the old picture.
-use mathlib.Core.Path.{◌≡◌, ap, sym, ◌∙◌}
-use mathlib.Core.Logic.{◌⊎◌, inl, inr}
-use mathlib.Core.Bool.{Bool, true, false, cond}
+use Rattle.std.specs.Prelude.{◌≡◌, ◌⊎◌, Bool, ℕ, ◌+◌, ◌<◌, ◌≤◌}
+use Rattle.std.proofs.Common.{ap, sym, ◌∙◌, inl, inr, arith, le_refl}
+use Rattle.std.proofs.Math.Logic.{⊎_map}
+use mathlib.Core.List.Memᴰ
 use mathlib.Core.List.{List, [], ◌∷◌, ◌++◌, Memᴰ}
-use Prim.Native.Nat.{ℕ, ◌+◌, ◌<◌, ◌≤◌}
-use native.Mathlib.Omega.{arith}
-use native.Mathlib.Nat.{le_refl}
-use Rattle.disks.specs.Disks.{Picture, State, keep, Cut, cut}
-use Rattle.disks.specs.Promise.{Run, still, onward, was_cut, PicturesStand}
-use Rattle.disks.proofs.Steps.{Step, nothing, made, changed, dropped, taken, thrown, step}
+use Rattle.disks.specs.Disks.{Picture, State, keep}
+use Rattle.disks.specs.Promise.{PicturesStand}
+use Rattle.disks.proofs.Steps.{Step, nothing, made, changed, dropped, taken, thrown, shortened, along, on_cond}
 
 mem_append : {A : Type 0} {x : A} (xs : List A) {y : A} → Memᴰ x (xs ++ (y ∷ [])) → Memᴰ x xs ⊎ (x ≡ y)
-mem_append [] (Memᴰ.head e) = inr e
-mem_append [] (Memᴰ.tail m) = elim m [ ]
-mem_append (z ∷ xs) (Memᴰ.head e) = inl (Memᴰ.head e)
-mem_append (z ∷ xs) (Memᴰ.tail m) = elim (mem_append xs m) [ inl k ↦ inl (Memᴰ.tail k) | inr e ↦ inr e ]
+mem_append xs m = ⊎_map (λ k. k) (λ k. Memᴰ.eq_of_singleton k) (Memᴰ.append_cases xs m)
 
 mem_keep : {A : Type 0} (f : A → Bool) {x : A} (xs : List A) → Memᴰ x (keep f xs) → Memᴰ x xs
 unfolding keep
 mem_keep f [] m = m
-mem_keep f {x} (z ∷ xs) m = go (f z) (mem_keep f xs) m
-  where
-    go : (b : Bool) → (Memᴰ x (keep f xs) → Memᴰ x xs) → Memᴰ x (cond b (z ∷ keep f xs) (keep f xs)) → Memᴰ x (z ∷ xs)
-    go true ih (Memᴰ.head e) = Memᴰ.head e
-    go true ih (Memᴰ.tail n) = Memᴰ.tail (ih n)
-    go false ih n = Memᴰ.tail (ih n)
+mem_keep f {x} (z ∷ xs) m =
+    on_cond (λ ys. Memᴰ x ys → Memᴰ x (z ∷ xs)) (f z) (λ _ n. elim (Memᴰ.cases_cons n) [ inl e ↦ Memᴰ.head e | inr k ↦ Memᴰ.tail (mem_keep f xs k) ])
+    (λ _ n. Memᴰ.tail (mem_keep f xs n)) m
 
 -- of the pictures of a state that can be come to: numbers below the next, each one's own
 record Own (next : ℕ) (ps : List Picture) : Type 0 where
@@ -52,17 +44,10 @@ own_step o (changed w f e h) = o
 own_step o (dropped w) = o
 own_step {s} o (taken p e) = own-taken s.next s.pictures p e o
 own_step {s} o (thrown f) = record { low = λ p m. o.low p (mem_keep f s.pictures m); own = λ p q m n e. o.own p q (mem_keep f s.pictures m) (mem_keep f s.pictures n) e }
+own_step o (shortened ws x) = o
 
 none-own : (n : ℕ) → Own n []
 none-own n = record { low = λ p m. elim m [ ]; own = λ p q m k e. elim m [ ] }
-
-own-cut : {s u : State} → Own s.next s.pictures → Cut s u → Own u.next u.pictures
-own-cut o (cut s ws x) = o
-
-owns : {s t : State} → Run s t → Own s.next s.pictures → Own t.next t.pictures
-owns still o = o
-owns (onward {t = t} c r) o = own_step (owns r o) (step c t)
-owns (was_cut r x) o = own-cut (owns r o) x
 
 -- from a state on: what is there was there, or is newer
 record Since (n : ℕ) (ps : List Picture) (m : ℕ) (qs : List Picture) : Type 0 where
@@ -80,20 +65,13 @@ since_step n ps {s} o (taken p e) = record { on = omega (arith, o.on); new = λ 
     go q (inl m) = o.new q m
     go q (inr h) = inr (omega (arith, o.on, ap (λ (y : Picture). y.num) h))
 since_step n ps {s} o (thrown f) = record { on = o.on; new = λ q m. o.new q (mem_keep f s.pictures m) }
-
-since-cut : (n : ℕ) (ps : List Picture) {s u : State} → Since n ps s.next s.pictures → Cut s u → Since n ps u.next u.pictures
-since-cut n ps o (cut s ws x) = o
-
-since : {s t : State} → Run s t → Since s.next s.pictures t.next t.pictures
-since still = record { on = le_refl _; new = λ q m. inl m }
-since {s} (onward {t = t} c r) = since_step s.next s.pictures (since r) (step c t)
-since {s} (was_cut r x) = since-cut s.next s.pictures (since r) x
+since_step n ps o (shortened ws x) = o
 
 pub pictures-stand : PicturesStand
-pictures-stand s t r u p q mp mq e = go ((since u).new q mq)
+pictures-stand s t r u p q mp mq e = go ((along (λ (t : State). Since s.next s.pictures t.next t.pictures) (λ s' u'. since_step s.next s.pictures) u (record { on = le_refl _; new = λ q m. inl m })).new q mq)
   where
     o : Own s.next s.pictures
-    o = owns r (none-own 1)
+    o = along (λ (t : State). Own t.next t.pictures) (λ s u. own_step) r (none-own 1)
 
     go : Memᴰ q s.pictures ⊎ (s.next ≤ q.num) → (p.size ≡ q.size) × ((n : ℕ) → p.sector n ≡ q.sector n)
     go (inl m) = (ap (λ (y : Picture). y.size) (o.own p q mp m e), λ n. ap (λ (y : Picture). y.sector n) (o.own p q mp m e))

@@ -1,15 +1,12 @@
--- What a call leaves, whichever it is: one of six outcomes. Each promise over runs then goes by these.
-use mathlib.Core.Path.{◌≡◌, refl}
-use mathlib.Core.Bool.{Bool, true, false, cond, ◌&&◌, ◌||◌, not}
+-- What a call or a cut leaves, whichever it is: one of seven outcomes. Each promise over runs then goes by these.
+use Rattle.std.specs.Prelude.{◌≡◌, refl, Bool, true, false, cond, ◌&&◌, ◌||◌, not, ℕ, ◌+◌, ◌≤◌, eqb, ltb, leb, T, length}
+use Rattle.std.proofs.Common.{arith, le_refl}
 use mathlib.Core.List.{List, [], ◌∷◌, ◌++◌}
-use Prim.Native.Nat.{ℕ, ◌+◌, ◌≤◌}
-use native.Mathlib.Omega.{arith}
-use native.Mathlib.Nat.{le_refl}
-use lib.Dec.{eqb, ltb, leb, T}
-use lib.ListN.{length}
 use Rattle.disks.specs.Device.{all_bytes}
-use Rattle.disks.specs.Disks.{Volume, Picture, State, keep, find, Call, Make, Attach, Read, Write, Sync, Picture', Copy, Drop, DropPicture, Out, no, is_volume, is_picture, with_volumes, in_volume, makes, attaches, holding, copies, drops_picture, does}
+use Rattle.disks.specs.Disks.{Volume, Picture, State, keep, find, Call, Make, Attach, Read, Write, Sync, Picture', Copy, Drop, DropPicture, Out, no, is_volume, is_picture, with_volumes, in_volume, makes, attaches, holding, copies, drops_picture, does, CutVolumes, cut}
+use Rattle.disks.specs.Promise.{Run, still, onward, was_cut}
 
+-- the library's `cond_both`, for a test that holds or fails as the statements say it
 pub on_cond : {A : Type 0} (P : A → Type 0) (b : Bool) {x y : A} → (T b → P x) → (T (not b) → P y) → P (cond b x y)
 on_cond P true f g = f tt
 on_cond P false f g = g tt
@@ -19,10 +16,6 @@ unfolding holding
 on_holding P t [] f s a b c = a
 on_holding P t (x ∷ xs) f s a b c = on_cond P (eqb t 0 || not (eqb t x.token)) (λ u. b) (λ u. c x)
 
-pub not_both : (b : Bool) → T b → T (not b) → ⊥
-not_both true t u = u
-not_both false t u = t
-
 pub data Step (s : State) : State → Type 0 where
   nothing : Step s s
   made : (x : Volume) → x.num ≡ s.next → Step s (record { next = s.next + 1; volumes = s.volumes ++ (x ∷ []); pictures = s.pictures })
@@ -30,6 +23,7 @@ pub data Step (s : State) : State → Type 0 where
   dropped : (w : ℕ) → Step s (with_volumes (keep (λ (y : Volume). not (is_volume w y)) s.volumes) s)
   taken : (p : Picture) → p.num ≡ s.next → Step s (record { next = s.next + 1; volumes = s.volumes; pictures = s.pictures ++ (p ∷ []) })
   thrown : (f : Picture → Bool) → Step s (record { next = s.next; volumes = s.volumes; pictures = keep f s.pictures })
+  shortened : (ws : List Volume) → CutVolumes s.volumes ws → Step s (with_volumes ws s)
 
 abbrev To : State → Out → Type 0
 To s o = Step s o.state
@@ -63,3 +57,9 @@ step (Picture' v t) s = on_holding (To s) t (find (is_volume v) s.volumes) _ s n
 step (Copy p) s = copies_step (find (is_picture p) s.pictures) s
 step (Drop v t) s = on_holding (To s) t (find (is_volume v) s.volumes) _ s nothing nothing (λ x. dropped v)
 step (DropPicture p) s = throws_step (find (is_picture p) s.pictures) s
+
+-- what each step keeps holds along a run
+pub along : (P : State → Type 0) → ((s u : State) → P s → Step s u → P u) → {s t : State} → Run s t → P s → P t
+along P goes still h = h
+along P goes (onward {t = t} c r) h = goes t _ (along P goes r h) (step c t)
+along P goes (was_cut r (cut s ws x)) h = goes s _ (along P goes r h) (shortened ws x)

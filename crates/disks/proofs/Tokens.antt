@@ -1,17 +1,12 @@
 -- Old tokens do nothing. A volume's number is never given again, and its token only grows; so once a token was given, what is found under
 -- the number has at least that token, and a call under an older one is refused.
-use mathlib.Core.Path.{◌≡◌, refl, ap, sym, subst}
-use mathlib.Core.Logic.{◌⊎◌, inl, inr}
-use mathlib.Core.Bool.{Bool, true, false, cond, ◌&&◌, ◌||◌, not}
+use Rattle.std.specs.Prelude.{◌≡◌, refl, ◌⊎◌, Bool, true, false, ◌&&◌, ◌||◌, not, ℕ, ◌+◌, ◌<◌, ◌≤◌, eqb, leb, T, length}
+use Rattle.std.proofs.Common.{ap, inl, inr, arith, eqb→eq}
 use mathlib.Core.List.{List, [], ◌∷◌}
-use Prim.Native.Nat.{ℕ, ◌+◌, ◌<◌, ◌≤◌}
-use native.Mathlib.Omega.{arith}
-use lib.Dec.{eqb, leb, T, eqb→eq}
-use lib.ListN.{length}
 use Rattle.disks.specs.Device.{all_bytes}
-use Rattle.disks.specs.Disks.{Volume, State, blank, find, Attach, Reply, No, Yes, Num, Token, Sector, Full, Out, no, in_volume, attaches, holding, does, Cut, cut}
-use Rattle.disks.specs.Promise.{Run, still, onward, was_cut, OldTokensNothing, Refused, OldTokensRefused}
-use Rattle.disks.proofs.Steps.{Step, nothing, made, changed, dropped, taken, thrown, step, on_cond}
+use Rattle.disks.specs.Disks.{Volume, State, blank, find, Attach, Token, Out, no, attaches, holding, does}
+use Rattle.disks.specs.Promise.{Run, OldTokensNothing, Refused, OldTokensRefused}
+use Rattle.disks.proofs.Steps.{Step, nothing, made, changed, dropped, taken, thrown, shortened, along, on_cond}
 use Rattle.disks.proofs.Found.{Head, at, weaken, head_num, head_change, head_changed, head_append, head_keep, head_cut}
 
 low_step : {s u : State} → ((v : ℕ) → Head (λ (x : Volume). v < s.next) (at v s)) → Step s u → (v : ℕ) → Head (λ (x : Volume). v < u.next) (at v u)
@@ -21,14 +16,7 @@ low_step {s} h (changed w f nums toks) v = head_change (λ (x : Volume). v < s.n
 low_step {s} h (dropped w) v = head_keep (λ (x : Volume). v < s.next) v w s.volumes (h v)
 low_step {s} h (taken p e) v = weaken _ _ (at v s) (λ x l. omega arith) (h v)
 low_step h (thrown f) v = h v
-
-low-cut : {s u : State} → ((v : ℕ) → Head (λ (x : Volume). v < s.next) (at v s)) → Cut s u → (v : ℕ) → Head (λ (x : Volume). v < u.next) (at v u)
-low-cut h (cut s ws x) v = head_cut (λ (x : Volume). v < s.next) v (λ x d l. l) x (h v)
-
-lows : {s t : State} → Run s t → ((v : ℕ) → Head (λ (x : Volume). v < s.next) (at v s)) → (v : ℕ) → Head (λ (x : Volume). v < t.next) (at v t)
-lows still h = h
-lows (onward {t = t} c r) h = low_step (lows r h) (step c t)
-lows (was_cut r x) h = low-cut (lows r h) x
+low_step {s} h (shortened ws x) v = head_cut (λ (x : Volume). v < s.next) (λ (x : Volume). v < s.next) v (λ x l. l) (λ x d a l. l) x (h v)
 
 -- its number is never given again, and its token only grows
 record Past (v k : ℕ) (s : State) : Type 0 where
@@ -42,77 +30,28 @@ past_step v k {s} h (changed w f nums toks) = record { below = h.below; token = 
 past_step v k {s} h (dropped w) = record { below = h.below; token = head_keep (λ (x : Volume). k ≤ x.token) v w s.volumes h.token }
 past_step v k h (taken p e) = record { below = omega (arith, h.below); token = h.token }
 past_step v k h (thrown f) = record { below = h.below; token = h.token }
-
-past_cut : (v k : ℕ) {s u : State} → Past v k s → Cut s u → Past v k u
-past_cut v k h (cut s ws x) = record { below = h.below; token = head_cut (λ (x : Volume). k ≤ x.token) v (λ x d l. omega arith) x h.token }
-
-pasts : (v k : ℕ) {s t : State} → Run s t → Past v k s → Past v k t
-pasts v k still h = h
-pasts v k (onward {t = t} c r) h = past_step v k (pasts v k r h) (step c t)
-pasts v k (was_cut r x) h = past_cut v k (pasts v k r h) x
-
-abbrev IsToken : Reply → Type 0
-IsToken (No n) = ⊥
-IsToken Yes = ⊥
-IsToken (Num n) = ⊥
-IsToken (Token k z) = Unit {0}
-IsToken (Sector b) = ⊥
-IsToken Full = ⊥
-
-abbrev token_of : Reply → ℕ
-token_of (No n) = 0
-token_of Yes = 0
-token_of (Num n) = 0
-token_of (Token k z) = k
-token_of (Sector b) = 0
-token_of Full = 0
+past_step v k h (shortened ws x) = record { below = h.below; token = head_cut (λ (x : Volume). k ≤ x.token) (λ (x : Volume). k ≤ x.token) v (λ x l. l) (λ x d a l. omega arith) x h.token }
 
 -- what an attaching leaves
 past_attach : (v k z : ℕ) (s : State) (l : List Volume) → at v s ≡ l → Head (λ (x : Volume). v < s.next) l → Head (λ (x : Volume). v ≡ x.num) l → (attaches l s).reply ≡ Token k z → Past v k (attaches l s).state
 unfolding attaches
-past_attach v k z s [] p h n e = absurd (subst IsToken (sym e) tt)
-past_attach v k z s (x ∷ xs) p h n e = go (leb 4611686018427387903 x.token) e
-  where
-    f : Volume → Volume
-    f y = record { num = y.num; size = y.size; token = y.token + 1; disk = y.disk }
-
-    go : (b : Bool) → (cond b (no 8 s) (record { reply = Token (x.token + 1) x.size; state = in_volume x.num f s })).reply ≡ Token k z → Past v k (cond b (no 8 s) (record { reply = Token (x.token + 1) x.size; state = in_volume x.num f s })).state
-    go true e = absurd (subst IsToken (sym e) tt)
-    go false e = record { below = h; token = rw (← n) (head_changed (λ (y : Volume). k ≤ y.token) v f (λ y. refl) s.volumes (rw p (le e))) }
-      where
-        le : Token (x.token + 1) x.size ≡ Token k z → k ≤ x.token + 1
-        le e = omega (arith, ap token_of e)
-
-differs : (a b : Bool) → T (not (a || not b)) → T b
-differs true b t = absurd t
-differs false true t = tt
-differs false false t = absurd t
-
-old_holding : (o : ℕ) (l : List Volume) (f : Volume → Out) (s : State) → Head (λ (x : Volume). o < x.token) l → (holding o l f s).state ≡ s
-unfolding holding
-old_holding o [] f s h = refl
-old_holding o (x ∷ xs) f s h = on_cond (λ (r : Out). r.state ≡ s) (eqb o 0 || not (eqb o x.token)) (λ u. refl) (λ u. absurd (omega (arith, eqb→eq o x.token (differs (eqb o 0) (eqb o x.token) u))))
+past_attach v k z s [] p h n e = absurd (cc e)
+past_attach v k z s (x ∷ xs) p h n e =
+    on_cond (λ (o : Out). o.reply ≡ Token k z → Past v k o.state) (leb 4611686018427387903 x.token) (λ _ e. absurd (cc e))
+    (λ _ e. let q : k ≡ x.token + 1 = cc e in record { below = h; token = rw (← n) (head_changed (λ (y : Volume). k ≤ y.token) v _ (λ y. refl) s.volumes (rw p (omega (arith, q)))) }) e
 
 -- what is found under the number of a volume that was attached has a token above an older one
 newer : (s t : State) → Run blank s → (v k z : ℕ) → (does (Attach v) s).reply ≡ Token k z → Run (does (Attach v) s).state t → (o : ℕ) → o < k → Head (λ (x : Volume). o < x.token) (at v t)
 unfolding does
-newer s t r v k z e u o lt = weaken _ _ (at v t) (λ x l. omega arith) (pasts v k u (past_attach v k z s (at v s) refl (low v) (head_num v s.volumes) e)).token
+newer s t r v k z e u o lt = weaken _ _ (at v t) (λ x l. omega arith) (along (Past v k) (λ s u. past_step v k) u (past_attach v k z s (at v s) refl (low v) (head_num v s.volumes) e)).token
   where
     low : (w : ℕ) → Head (λ (x : Volume). w < s.next) (at w s)
-    low = lows r (λ w. unfold find in tt)
-
-pub old_tokens_nothing : OldTokensNothing
-unfolding does
-old_tokens_nothing s t r v k z n b e u o lt =
-    (on_cond (λ (r : Out). r.state ≡ t) (not (eqb (length b) 512 && all_bytes b)) (λ u. refl) (λ u. old_holding o (at v t) _ t h), old_holding o (at v t) _ t h, old_holding o (at v t) _ t h, old_holding o (at v t) _ t h)
-  where
-    h : Head (λ (x : Volume). o < x.token) (at v t)
-    h = newer s t r v k z e u o lt
+    low = along (λ (s : State). (w : ℕ) → Head (λ (x : Volume). w < s.next) (at w s)) (λ s u. low_step) r (λ w. unfold find in tt)
 
 refused-holding : (o : ℕ) (l : List Volume) (f : Volume → Out) (s : State) → Head (λ (x : Volume). o < x.token) l → Refused (holding o l f s) s
 unfolding holding
 refused-holding o [] f s h = inr refl
-refused-holding o (x ∷ xs) f s h = on_cond (λ (r : Out). Refused r s) (eqb o 0 || not (eqb o x.token)) (λ u. inl refl) (λ u. absurd (omega (arith, eqb→eq o x.token (differs (eqb o 0) (eqb o x.token) u))))
+refused-holding o (x ∷ xs) f s h = on_cond (λ (r : Out). Refused r s) (eqb o 0 || not (eqb o x.token)) (λ u. inl refl) (λ u. absurd (grind arith))
 
 pub old_tokens_refused : OldTokensRefused
 unfolding does
@@ -121,3 +60,13 @@ old_tokens_refused s t r v k z n b e u o lt =
   where
     h : Head (λ (x : Volume). o < x.token) (at v t)
     h = newer s t r v k z e u o lt
+
+-- what is refused changes nothing
+unchanged : {o : Out} {s : State} → Refused o s → o.state ≡ s
+unchanged (inl e) = ap (λ (r : Out). r.state) e
+unchanged (inr e) = ap (λ (r : Out). r.state) e
+
+pub old_tokens_nothing : OldTokensNothing
+old_tokens_nothing s t r v k z n b e u o lt =
+    let (reads, writes, syncs, drops, takes) = old_tokens_refused s t r v k z n b e u o lt in
+    (elim writes [ inl x ↦ unchanged x | inr x ↦ ap (λ (r : Out). r.state) x ], unchanged syncs, unchanged drops, unchanged takes)

@@ -1,43 +1,19 @@
 -- Whoever has a volume has a device: along its calls, what is found under its number has the device that these calls make.
-use mathlib.Core.Path.{◌≡◌, refl, ap, sym, ◌∙◌, subst}
-use mathlib.Core.Logic.{◌⊎◌, inl, inr}
-use mathlib.Core.Bool.{Bool, true, false, cond, ◌&&◌, not}
+use Rattle.std.specs.Prelude.{◌≡◌, refl, ◌⊎◌, ◌&&◌, not, ℕ, eqb, ltb, leb, length}
+use Rattle.std.proofs.Common.{ap, subst, inl, inr}
 use mathlib.Core.List.{List, [], ◌∷◌}
-use Prim.Native.Nat.{ℕ}
-use lib.Dec.{eqb, ltb, leb}
-use lib.ListN.{length}
 use Rattle.disks.specs.Device.{Device, shown, written, synced, all_bytes, AfterCut}
-use Rattle.disks.specs.Disks.{Volume, State, find, Reply, No, Yes, Num, Token, Sector, Full, Out, no, is_volume, with_disk, in_volume, attaches, does, cut_to, CutVolumes, no_more, left, is_cut, cut}
+use Rattle.disks.specs.Disks.{Volume, State, Yes, Sector, Out, with_disk, in_volume, attaches, does, cut}
 use Rattle.disks.specs.Promise.{Uses, IsADevice, CutAsADevice}
 use Rattle.disks.proofs.Steps.{on_cond}
-use Rattle.disks.proofs.Found.{Head, at, all_heads, head_change, head_changed, on_found}
-
-abbrev IsYes : Reply → Type 0
-IsYes (No n) = ⊥
-IsYes Yes = Unit {0}
-IsYes (Num n) = ⊥
-IsYes (Token k z) = ⊥
-IsYes (Sector b) = ⊥
-IsYes Full = ⊥
-
-abbrev IsSector : Reply → Type 0
-IsSector (No n) = ⊥
-IsSector Yes = ⊥
-IsSector (Num n) = ⊥
-IsSector (Token k z) = ⊥
-IsSector (Sector b) = Unit {0}
-IsSector Full = ⊥
-
-abbrev bytes_of : Reply → List ℕ
-bytes_of (No n) = []
-bytes_of Yes = []
-bytes_of (Num n) = []
-bytes_of (Token k z) = []
-bytes_of (Sector b) = b
-bytes_of Full = []
+use Rattle.disks.proofs.Found.{Head, at, all_heads, head_change, head_changed, head_cut, on_found}
 
 abbrev pub Shows : ℕ → Device → State → Type 0
 Shows v d s = Head (λ (x : Volume). x.disk ≡ d) (at v s)
+
+-- the device of the one that is found changes
+changed : (g : Device → Device) (v : ℕ) (s : State) {d e : Device} → e ≡ d → Shows v (g d) (in_volume v (with_disk (g e)) s)
+changed g v s {d} q = head_changed (λ (w : Volume). w.disk ≡ g d) v _ (λ w. refl) s.volumes (all_heads _ (at v s) (λ y. ap g q))
 
 pub shows : {v t z : ℕ} {s : State} {d : Device} → Uses v t z s d → Shows v d s
 unfolding does attaches
@@ -47,53 +23,24 @@ shows {v} (Uses.attached s x r p e) = go (at v s)
     go [] = rw p refl
     go (y ∷ ys) = on_cond (λ (o : Out). Shows v x.disk o.state) (leb 4611686018427387903 y.token) (λ u. rw p refl) (λ u. head_change (λ (w : Volume). w.disk ≡ x.disk) v y.num _ (λ w. refl) (λ w q. q) s.volumes (rw p refl))
 shows {v} {t} (Uses.writes {s = s} {d = d} n b u e) =
-    on_cond P (not (eqb (length b) 512 && all_bytes b)) (λ _. no' 1) (λ _. on_found P (λ (x : Volume). x.disk ≡ d) t (at v s) _ s (no' 2) (no' 4) (shows u) (λ x q. on_cond P (ltb n x.size) (λ _ e. changed' x q) (λ _. no' 1))) e
+    on_cond P (not (eqb (length b) 512 && all_bytes b)) (λ _ e. absurd (cc e)) (λ _. on_found P (λ (x : Volume). x.disk ≡ d) t (at v s) _ s (λ e. absurd (cc e)) (λ e. absurd (cc e)) (shows u) (λ x q. on_cond P (ltb n x.size) (λ _ e. changed (written n b) v s q) (λ _ e. absurd (cc e)))) e
   where
     P : Out → Type 0
     P o = o.reply ≡ Yes → Shows v (written n b d) o.state
-
-    no' : (k : ℕ) → P (no k s)
-    no' k e = absurd (subst IsYes (sym e) tt)
-
-    changed' : (x : Volume) → x.disk ≡ d → Shows v (written n b d) (in_volume v (with_disk (written n b x.disk)) s)
-    changed' x q = head_changed (λ (w : Volume). w.disk ≡ written n b d) v _ (λ w. refl) s.volumes (all_heads _ (at v s) (λ y. ap (written n b) q))
-shows {v} {t} (Uses.syncs {s = s} {d = d} u e) = on_found P (λ (x : Volume). x.disk ≡ d) t (at v s) _ s (no' 2) (no' 4) (shows u) (λ x q e. changed' x q) e
+shows {v} {t} (Uses.syncs {s = s} {d = d} u e) = on_found P (λ (x : Volume). x.disk ≡ d) t (at v s) _ s (λ e. absurd (cc e)) (λ e. absurd (cc e)) (shows u) (λ x q e. changed synced v s q) e
   where
     P : Out → Type 0
     P o = o.reply ≡ Yes → Shows v (synced d) o.state
-
-    no' : (k : ℕ) → P (no k s)
-    no' k e = absurd (subst IsYes (sym e) tt)
-
-    changed' : (x : Volume) → x.disk ≡ d → Shows v (synced d) (in_volume v (with_disk (synced x.disk)) s)
-    changed' x q = head_changed (λ (w : Volume). w.disk ≡ synced d) v _ (λ w. refl) s.volumes (all_heads _ (at v s) (λ y. ap synced q))
 shows (Uses.cuts u x e) = rw e (shows u)
 shows (Uses.others c u e) = rw e (shows u)
 
 pub is_a_device : IsADevice
 unfolding does
 is_a_device v t z n s d b u e =
-    on_found P (λ (x : Volume). x.disk ≡ d) t (at v s) _ s (no' 2) (no' 4) (shows u) (λ x q. on_cond P (ltb n x.size) (λ _ e. sym (ap bytes_of e) ∙ ap (λ (f : Device). shown f n) q) (λ _. no' 1)) e
+    on_found P (λ (x : Volume). x.disk ≡ d) t (at v s) _ s (λ e. absurd (cc e)) (λ e. absurd (cc e)) (shows u) (λ x q. on_cond P (ltb n x.size) (λ _ e. cc (e, ap (λ (f : Device). shown f n) q)) (λ _ e. absurd (cc e))) e
   where
     P : Out → Type 0
     P o = o.reply ≡ Sector b → b ≡ shown d n
 
-    no' : (k : ℕ) → P (no k s)
-    no' k e = absurd (subst IsSector (sym e) tt)
-
-cut-volume : (v : ℕ) (d : Device) {vs ws : List Volume} → CutVolumes vs ws → Head (λ (x : Volume). x.disk ≡ d) (find (is_volume v) vs) → Head (λ (x : Volume). (x.disk ≡ d) ⊎ AfterCut d x.disk) (find (is_volume v) ws)
-unfolding find
-cut-volume v d no_more h = tt
-cut-volume v d (left {vs = vs} {ws = ws} x y) h = go (eqb v x.num) (cut-volume v d y) h
-  where
-    go : (c : Bool) → (Head (λ (x : Volume). x.disk ≡ d) (find (is_volume v) vs) → Head (λ (x : Volume). (x.disk ≡ d) ⊎ AfterCut d x.disk) (find (is_volume v) ws)) → Head (λ (x : Volume). x.disk ≡ d) (cond c (x ∷ []) (find (is_volume v) vs)) → Head (λ (x : Volume). (x.disk ≡ d) ⊎ AfterCut d x.disk) (cond c (x ∷ []) (find (is_volume v) ws))
-    go true ih h = inl h
-    go false ih h = ih h
-cut-volume v d (is_cut {vs = vs} {ws = ws} x f a y) h = go (eqb v x.num) (cut-volume v d y) h
-  where
-    go : (c : Bool) → (Head (λ (x : Volume). x.disk ≡ d) (find (is_volume v) vs) → Head (λ (x : Volume). (x.disk ≡ d) ⊎ AfterCut d x.disk) (find (is_volume v) ws)) → Head (λ (x : Volume). x.disk ≡ d) (cond c (x ∷ []) (find (is_volume v) vs)) → Head (λ (x : Volume). (x.disk ≡ d) ⊎ AfterCut d x.disk) (cond c (cut_to f x ∷ []) (find (is_volume v) ws))
-    go true ih h = inr (subst (λ (g : Device). AfterCut g f) h a)
-    go false ih h = ih h
-
 pub cut_as_a_device : CutAsADevice
-cut_as_a_device v t z s u d x use' (cut s' ws y) e = subst (Head (λ (x : Volume). (x.disk ≡ d) ⊎ AfterCut d x.disk)) e (cut-volume v d y (shows use'))
+cut_as_a_device v t z s u d x use' (cut s' ws y) e = subst (Head (λ (x : Volume). (x.disk ≡ d) ⊎ AfterCut d x.disk)) e (head_cut (λ (x : Volume). x.disk ≡ d) _ v (λ x q. inl q) (λ x f a q. inr (subst (λ (g : Device). AfterCut g f) q a)) y (shows use'))

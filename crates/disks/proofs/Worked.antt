@@ -1,5 +1,5 @@
 -- The worked cases, by computing.
-use mathlib.Core.Path.{refl}
+use Rattle.std.specs.Prelude.{refl}
 use Rattle.disks.specs.Device.{latest, all_bytes}
 use Rattle.disks.specs.Disks.{find, change, keep, attaches, holding, copies, does}
 use Rattle.disks.specs.Worked.{WorkedCases, CopySynced, replies, leaves}

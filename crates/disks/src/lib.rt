@@ -20,7 +20,7 @@ pub fn is_present(token: u64, present: u64) -> bool
 }
 
 // What is promised of volumes as if in one place, for every run of calls and cuts.
-pub fn volumes_promised() -> u8
+pub fn volumes_promised()
     ensures tokens { OldTokensNothing }
     ensures refused { OldTokensRefused }
     ensures apart { Apart }
@@ -30,6 +30,4 @@ pub fn volumes_promised() -> u8
     ensures cut { CutAsADevice }
     ensures worked { WorkedCases }
     ensures synced { CopySynced }
-{
-    0
-}
+{}

@@ -1,5 +1,0 @@
-use Rattle.composed.specs.Held.{is_shown}
-use Rattle.composed.proofs.pure_houses_carry_for.Goals as goal
-
-pub returns : goal.returns
-returns c = record { carries = is_shown; within = is_shown; answers = is_shown }
