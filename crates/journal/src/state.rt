@@ -65,10 +65,10 @@ impl Write {
         ensures first { result.0.now ≡ take 256 self.now.bytes }
         ensures second { result.1.now ≡ drop 256 self.now.bytes }
     {
-        let (Some(first), Some(second)) = (
-            self.bytes.first_chunk::<HALF_BYTES>(),
-            self.bytes.last_chunk::<HALF_BYTES>(),
-        ) else {
+        let Some(first) = self.bytes.first_chunk::<HALF_BYTES>() else {
+            unreachable()
+        };
+        let Some(second) = self.bytes.last_chunk::<HALF_BYTES>() else {
             unreachable()
         };
         (first, second)
