@@ -9,6 +9,7 @@ use journal::state::{Journal, Refused, is_guarded};
 use octets::{BLANK_SECTOR, SECTOR_BYTES};
 
 // The sector as it was last put.
+#[tactic(auto, using(crate::proofs::Steps::does, crate::proofs::Tells::tells), unfolding(journal::specs::Programs::get_io))]
 pub fn get<D: Disk>(
     journal: &Journal,
     disk: &mut D,

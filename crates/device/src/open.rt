@@ -26,6 +26,7 @@ fn scan<D: Disk>(disk: &mut D, size: u64, slot: Slot) -> Result<Scan, Fault>
 }
 
 // The journal of a disk with so many sectors, once everything that was put stands in its place.
+#[tactic(auto, using(crate::proofs::Steps::does, crate::proofs::Tells::tells), unfolding(journal::specs::Programs::open_io))]
 pub fn open<D: Disk>(disk: &mut D, size: u64) -> Result<Journal, Failed<Foreign>>
     ensures { Does D.did (open_io size) disk.old (told result) disk.new }
 {

@@ -48,6 +48,7 @@ fn write_in_place<D: Disk>(disk: &mut D, writes: &[Write]) -> Result<(), Fault>
 }
 
 // The record, then the sync: from there on the record is whole, and opening does it again. Only then the sectors themselves.
+#[tactic(auto, using(crate::proofs::Steps::does), unfolding(journal::specs::Programs::transact_io))]
 fn transact<D: Disk>(journal: &Journal, disk: &mut D, writes: &[Write]) -> Result<(), Fault>
     requires { length writes.now ≤ 240 }
     ensures { Does D.did (transact_io journal.now writes.now) disk.old result disk.new }
@@ -58,6 +59,7 @@ fn transact<D: Disk>(journal: &Journal, disk: &mut D, writes: &[Write]) -> Resul
 }
 
 // Writes these sectors together: whenever the power fails, opening finds all of them written or none.
+#[tactic(auto, using(crate::proofs::Steps::does, crate::proofs::Tells::tells), unfolding(journal::specs::Programs::put_io))]
 pub fn put<D: Disk>(
     journal: &mut Journal,
     disk: &mut D,

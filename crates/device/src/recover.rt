@@ -29,6 +29,7 @@ fn replay<D: Disk>(disk: &mut D, at: u64, count: u64) -> Result<(), Fault>
 }
 
 // Does both records again, the older one first.
+#[tactic(auto, using(crate::proofs::Steps::does), unfolding(journal::specs::Programs::redo_io))]
 fn redo<D: Disk>(disk: &mut D, found: InOrder) -> Result<(), Fault>
     ensures { Does D.did (redo_io found.older found.a found.b) disk.old result disk.new }
 {
