@@ -1,9 +1,20 @@
--- What a call told, with what it left in memory.
-use Rattle.std.proofs.Common.{◌≡◌, true, is_err, Ok, Err, Result}
+-- What a call told, with what it left in memory, where the disk failed in the midst.
+use Rattle.std.proofs.Common.{◌≡◌, Err, Result, refl}
+use Rattle.disks.specs.Device.{Io}
+use Rattle.journal.specs.Programs.{Put'}
 use Rattle.journal.specs.declared.state.Journal.{Journal}
-use Rattle.journal.specs.declared.state.Outcome.{Outcome}
-use Rattle.device.specs.Told.{leaving}
+use Rattle.journal.specs.declared.state.Refused.{Refused}
+use Rattle.device.specs.declared.disk.Fault.{Fault}
+use Rattle.device.specs.declared.disk.Failed.{Failed}
+use Rattle.device.specs.declared.disk.Failed.TheVariants.{Disk}
+use Rattle.device.specs.Does.{Act, Does, Cut}
+use Rattle.device.specs.Told.{told, leaving}
+use Rattle.device.proofs.Steps.{failed}
 
-pub leaving_err : {E : Type 0} (r : Result Outcome E) (j : Journal) → is_err r ≡ true → is_err (leaving r j) ≡ true
-leaving_err (Ok o) j h = h
-leaving_err (Err e) j h = h
+pub told_fault : {S A E : Type 0} {did : S → Act → S → Type 0} {p : Io (Result A E)} {x : Failed E} {e : Fault} {s t : S} → x ≡ Disk e → Cut did p s t → Does did p s (told (Err x)) t
+told_fault q i = rw q (failed refl i)
+
+pub left_fault : {S : Type 0} {did : S → Act → S → Type 0} {p : Io Put'} {x : Failed Refused} {e : Fault} (j : Journal) {s t : S} → x ≡ Disk e → Cut did p s t → Does did p s (leaving (told {A = Unit {0}} (Err x)) j) t
+left_fault j q i = rw q (failed refl i)
+
+pub ruleset tells = (told_fault, left_fault)

@@ -1,13 +1,15 @@
 -- What is left of a program that goes through a list or a slot, at each turn of the code's loop.
 -- X-more: one turn, and what is left then; X-all: nothing is left.
-use Rattle.std.proofs.Common.{◌≡◌, ℕ, suc, ◌+◌, ◌-◌, ◌*◌, ◌/◌, ◌%◌, ◌<◌, ◌≤◌, List, ◌++◌, length, get_or, take, drop, Ok, Result, sym, refl, subst, arith}
+use Rattle.std.proofs.Common.{◌≡◌, ℕ, suc, Bool, true, false, cond, ltb, ◌&&◌, ◌+◌, ◌-◌, ◌*◌, ◌/◌, ◌%◌, ◌<◌, ◌≤◌, List, ◌++◌, length, get_or, take, drop, Ok, Result, sym, refl, subst, arith}
 use Rattle.std.proofs.lemmas.List.{drop_more, drop_all}
-use Rattle.disks.specs.Device.{read, write}
+use Rattle.disks.specs.Device.{Io, answer, read, write, then'}
 use Rattle.journal.specs.Format.{slot_sectors, part_bytes, part_of, half_of}
-use Rattle.journal.specs.Programs.{no_write, write_all_io, record_sector, record_from, scan_from, replay_from}
-use Rattle.journal.specs.Scans.{scan_next}
+use Rattle.journal.specs.Programs.{no_write, write_all_io, record_sector, record_from, scan_from, replay_from, Opened, ready, redo_io, recover_io, in_order}
+use Rattle.journal.specs.Scans.{scan_next, number_or_none}
 use Rattle.journal.specs.declared.scan.Scan.{Scan}
 use Rattle.journal.specs.declared.state.Write.{Write}
+use Rattle.journal.specs.declared.state.InOrder.{InOrder}
+use Rattle.journal.specs.declared.state.Slot.TheVariants.{First, Second}
 use Rattle.device.specs.Does.{Act, Does, ends}
 
 -- the writes of a list from the i-th on
@@ -86,3 +88,18 @@ unfolding replay_from
 replay_all at i count l = let n : count - i ≡ 0 = omega arith in rw n ends
 
 pub ruleset replaying = (replay_more, replay_all)
+
+-- both records, in the order that the code found first
+pub redo_in_order : {S E : Type 0} {did : S → Act → S → Type 0} (size : ℕ) (a b : Scan) (o : InOrder) {r : Result Opened E} {s t : S} → a.ours && b.ours ≡ true → o ≡ in_order a b →
+    Does did (then' (redo_io o.older o.a o.b) (λ _. answer (Ok (ready size o.older o.a o.b)))) s r t →
+    Does did (recover_io size a b) s r t
+unfolding recover_io
+redo_in_order {E} {did} size a b o {r} {s} {t} ours e h = rw ours (go (ltb (number_or_none b) (number_or_none a)) (subst (λ (o : InOrder). Does {E = E} did (after o) s r t) e h))
+  where
+    after : InOrder → Io Opened
+    after o = then' (redo_io o.older o.a o.b) (λ _. answer (Ok (ready size o.older o.a o.b)))
+
+    go : (x : Bool) → Does {E = E} did (after (cond x (record { older = Second; a = b; b = a }) (record { older = First; a = a; b = b }))) s r t →
+        Does did (cond x (then' (redo_io Second b a) (λ _. answer (Ok (ready size Second b a)))) (then' (redo_io First a b) (λ _. answer (Ok (ready size First a b))))) s r t
+    go true h = h
+    go false h = h

@@ -1,8 +1,10 @@
 // A disk: one request at a time, each a whole sector. What it did is told by ghost members, so that a contract can say which requests were made.
+ghost use Rattle.std.specs.Prelude.{◌≡◌};
 ghost use Rattle.disks.specs.Device.{Device};
 ghost use Rattle.device.specs.Does.{Act, broke, Does, read_io, write_io, sync_io, giving};
 ghost use Rattle.device.specs.Tied.{Models, DoesRuns};
 ghost use Rattle.device.specs.Runs.{all_run};
+ghost use Rattle.device.specs.declared.disk.Failed.TheVariants.{Disk as DiskFailed};
 
 use journal::Place;
 use octets::SECTOR_BYTES;
@@ -10,6 +12,22 @@ use octets::SECTOR_BYTES;
 // The power failed, or the disk did not answer: whoever asked gives up.
 #[derive(Clone, Copy, Debug, Drop)]
 pub struct Fault;
+
+// Why a call came to nothing.
+#[derive(Clone, Copy, Debug, Drop)]
+pub enum Failed<E> {
+    Disk(Fault),
+    // the journal refused
+    Refused(E),
+}
+
+impl<E> From<Fault> for Failed<E> {
+    ghost from_gives = { λ e r. r ≡ DiskFailed e };
+
+    fn from(e: Fault) -> Failed<E> {
+        Failed::Disk(e)
+    }
+}
 
 pub trait Disk {
     // from one state to the next the disk did this

@@ -1,11 +1,13 @@
 // Opening: both slots of the journal are read, and what they hold is done again.
 ghost use Rattle.device.specs.Does.{Act, Does};
+ghost use Rattle.device.specs.Told.{told};
 ghost use Rattle.journal.specs.Programs.{scan_io, open_io};
 
-use crate::disk::{Disk, Fault};
+use crate::disk::{Disk, Failed, Fault};
 use crate::recover::recover;
+use journal::part::Foreign;
 use journal::scan::Scan;
-use journal::state::{Opened, Slot};
+use journal::state::{Journal, Slot};
 use journal::{Place, SLOT_SECTORS};
 use octets::BLANK_SECTOR;
 
@@ -24,8 +26,9 @@ fn scan<D: Disk>(disk: &mut D, size: u64, slot: Slot) -> Result<Scan, Fault>
 }
 
 // The journal of a disk with so many sectors, once everything that was put stands in its place.
-pub fn open<D: Disk>(disk: &mut D, size: u64) -> Result<Opened, Fault>
-    ensures { Does D.did (open_io size) disk.old result disk.new }
+#[tactic(auto, using(crate::proofs::Steps::does, crate::proofs::Tells::tells), unfolding(journal::specs::Programs::open_io))]
+pub fn open<D: Disk>(disk: &mut D, size: u64) -> Result<Journal, Failed<Foreign>>
+    ensures { Does D.did (open_io size) disk.old (told result) disk.new }
 {
     let a = scan(disk, size, Slot::First)?;
     let b = scan(disk, size, Slot::Second)?;

@@ -1,12 +1,12 @@
 // Putting a transaction: its record into a slot of the journal, a sync, then its sectors in place.
 ghost use Rattle.std.specs.Prelude.{◌≡◌, ◌+◌, ◌*◌, ◌^◌, ◌<◌, ◌≤◌, true, length, is_err};
 ghost use Rattle.device.specs.Does.{Act, Does};
-ghost use Rattle.device.specs.Told.{leaving};
+ghost use Rattle.device.specs.Told.{told, leaving};
 ghost use Rattle.journal.specs.Programs.{write_all_io, record_of, transact_io, put_io};
 
-use crate::disk::{Disk, Fault};
-use journal::part::{fill_first_half, fill_second_half};
-use journal::state::{Journal, Outcome, Refused, Write, is_allowed};
+use crate::disk::{Disk, Failed, Fault};
+use journal::part::Part;
+use journal::state::{Journal, Refused, Write, is_allowed};
 use journal::{NUMBERS_END, Place};
 use octets::BLANK_SECTOR;
 
@@ -17,13 +17,22 @@ fn write_record<D: Disk>(disk: &mut D, at: u64, number: u64, writes: &[Write]) -
 {
     let length = 2 * writes.len() as u64;
     let mut sector = BLANK_SECTOR;
-    for i in 0..writes.len() {
-        let write = &writes[i];
-        let index = 2 * i as u64;
-        fill_first_half(number, index, length, write, &mut sector);
-        disk.write(Place(at + index), &sector)?;
-        fill_second_half(number, index + 1, length, write, &mut sector);
-        disk.write(Place(at + (index + 1)), &sector)?;
+    for (i, write) in writes.iter().enumerate() {
+        let (first, second) = write.halves();
+        let part = Part {
+            number,
+            index: 2 * i as u64,
+            length,
+            target: write.target,
+        };
+        part.fill(first, &mut sector);
+        disk.write(Place(at + part.index), &sector)?;
+        let behind = Part {
+            index: part.index + 1,
+            ..part
+        };
+        behind.fill(second, &mut sector);
+        disk.write(Place(at + behind.index), &sector)?;
     }
     Ok(())
 }
@@ -39,6 +48,7 @@ fn write_in_place<D: Disk>(disk: &mut D, writes: &[Write]) -> Result<(), Fault>
 }
 
 // The record, then the sync: from there on the record is whole, and opening does it again. Only then the sectors themselves.
+#[tactic(auto, using(crate::proofs::Steps::does), unfolding(journal::specs::Programs::transact_io))]
 fn transact<D: Disk>(journal: &Journal, disk: &mut D, writes: &[Write]) -> Result<(), Fault>
     requires { length writes.now ≤ 240 }
     ensures { Does D.did (transact_io journal.now writes.now) disk.old result disk.new }
@@ -49,17 +59,22 @@ fn transact<D: Disk>(journal: &Journal, disk: &mut D, writes: &[Write]) -> Resul
 }
 
 // Writes these sectors together: whenever the power fails, opening finds all of them written or none.
-pub fn put<D: Disk>(journal: &mut Journal, disk: &mut D, writes: &[Write]) -> Result<Outcome, Fault>
-    ensures done { Does D.did (put_io journal.old writes.now) disk.old (leaving result journal.new) disk.new }
+#[tactic(auto, using(crate::proofs::Steps::does, crate::proofs::Tells::tells), unfolding(journal::specs::Programs::put_io))]
+pub fn put<D: Disk>(
+    journal: &mut Journal,
+    disk: &mut D,
+    writes: &[Write],
+) -> Result<(), Failed<Refused>>
+    ensures done { Does D.did (put_io journal.old writes.now) disk.old (leaving (told result) journal.new) disk.new }
     ensures kept { is_err result ≡ true → journal.new ≡ journal.old }
 {
     if !is_allowed(journal.size, writes) {
-        return Ok(Outcome::Refused(Refused::OutOfRange));
+        return Err(Failed::Refused(Refused::OutOfRange));
     }
     if journal.next >= NUMBERS_END {
-        return Ok(Outcome::Refused(Refused::NumbersUsedUp));
+        return Err(Failed::Refused(Refused::NumbersUsedUp));
     }
     transact(journal, disk, writes)?;
     *journal = journal.after_put();
-    Ok(Outcome::Done)
+    Ok(())
 }

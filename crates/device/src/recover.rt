@@ -1,13 +1,14 @@
 // Recovery: the complete records of both slots are done again, the older first, and then synced.
 ghost use Rattle.std.specs.Prelude.{◌+◌, ◌*◌, ◌^◌, ◌<◌};
 ghost use Rattle.device.specs.Does.{Act, Does};
+ghost use Rattle.device.specs.Told.{told};
 ghost use Rattle.journal.specs.Programs.{replay_from, redo_io, recover_io};
 
-use crate::disk::{Disk, Fault};
+use crate::disk::{Disk, Failed, Fault};
 use journal::Place;
-use journal::part::{Part, join_halves};
+use journal::part::{Foreign, Part, join_halves};
 use journal::scan::Scan;
-use journal::state::{Journal, Opened, Slot};
+use journal::state::{InOrder, Journal};
 use octets::BLANK_SECTOR;
 
 // Does the first so many writes again of the record in the slot that begins there.
@@ -27,27 +28,33 @@ fn replay<D: Disk>(disk: &mut D, at: u64, count: u64) -> Result<(), Fault>
     Ok(())
 }
 
-// Does both records again; a is what the older one's slot was found to hold.
-fn redo<D: Disk>(disk: &mut D, older: Slot, a: Scan, b: Scan) -> Result<(), Fault>
-    ensures { Does D.did (redo_io older a b) disk.old result disk.new }
+// Does both records again, the older one first.
+#[tactic(auto, using(crate::proofs::Steps::does), unfolding(journal::specs::Programs::redo_io))]
+fn redo<D: Disk>(disk: &mut D, found: InOrder) -> Result<(), Fault>
+    ensures { Does D.did (redo_io found.older found.a found.b) disk.old result disk.new }
 {
-    replay(disk, older.first_sector(), a.redo_count())?;
-    replay(disk, older.opposite().first_sector(), b.redo_count())?;
+    replay(disk, found.older.first_sector(), found.a.redo_count())?;
+    replay(
+        disk,
+        found.older.opposite().first_sector(),
+        found.b.redo_count(),
+    )?;
     disk.sync()
 }
 
 // Brings the sectors up to what was put, a and b being what the two slots were found to hold.
-pub(crate) fn recover<D: Disk>(disk: &mut D, size: u64, a: Scan, b: Scan) -> Result<Opened, Fault>
-    ensures { Does D.did (recover_io size a b) disk.old result disk.new }
+pub(crate) fn recover<D: Disk>(
+    disk: &mut D,
+    size: u64,
+    a: Scan,
+    b: Scan,
+) -> Result<Journal, Failed<Foreign>>
+    ensures { Does D.did (recover_io size a b) disk.old (told result) disk.new }
 {
     if !(a.ours && b.ours) {
-        return Ok(Opened::Foreign);
+        return Err(Failed::Refused(Foreign));
     }
-    if b.redo_number() < a.redo_number() {
-        redo(disk, Slot::Second, b, a)?;
-        Ok(Opened::Ready(Journal::ready(size, Slot::Second, b, a)))
-    } else {
-        redo(disk, Slot::First, a, b)?;
-        Ok(Opened::Ready(Journal::ready(size, Slot::First, a, b)))
-    }
+    let found = InOrder::of(a, b);
+    redo(disk, found)?;
+    Ok(Journal::ready(size, found))
 }

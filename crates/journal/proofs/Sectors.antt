@@ -1,12 +1,11 @@
 -- Sectors of the journal as they are read: the numbers in them, and the half that each carries.
-use Rattle.std.proofs.Common.{◌≡◌, ℕ, Bool, true, false, cond, ◌≢◌, List, ◌++◌, length, take, drop, sym, ap, ◌∙◌, append-nil, arith, length-drop}
+use Rattle.std.proofs.Common.{◌≡◌, ℕ, Bool, true, false, cond, ◌≢◌, List, ◌++◌, length, take, drop, sym, ap, ◌∙◌, append-nil, arith, length-drop, Some, None, Ok, Err}
 use borrow.Rule.Slice.PartMut.{mid_of, put_mid, post_of}
 use Rattle.std.proofs.lemmas.List.{take_all, drop-drop, drop_all}
 use Rattle.std.proofs.lemmas.Bool.{eq-eqb, ne_eqb}
 use Rattle.octets.specs.Numbers.{big, field}
 use Rattle.journal.specs.declared.part.Part.{Part}
-use Rattle.journal.specs.declared.part.Found.TheVariants.{Blank, Part as IsPart, Foreign}
-use Rattle.journal.specs.Format.{mark, part_of, is_sound, found}
+use Rattle.journal.specs.Format.{mark, part_of, is_sound, foreign, found}
 use Rattle.journal.proofs.Laid.{laid}
 
 -- the four numbers behind the mark
@@ -28,24 +27,26 @@ two_laid a b out xs ys la lout ex ey =
     ∙ ap (λ (z : List ℕ). (a ++ b) ++ z) (drop-drop 256 256 out ∙ drop_all 512 out (omega arith)) ∙ append-nil (a ++ b)
 
 -- what a sector is found to be
-pub found_blank : (size i m : ℕ) (b : List ℕ) → m ≡ field 0 b → m ≡ 0 → Blank ≡ found size i b
+pub found_blank : (size i m : ℕ) (b : List ℕ) → m ≡ field 0 b → m ≡ 0 → Ok None ≡ found size i b
 unfolding found
 found_blank size i m b read e = rw (eq-eqb (field 0 b) 0 (sym read ∙ e))
 
-pub found_unmarked : (size i m : ℕ) (b : List ℕ) → m ≡ field 0 b → m ≢ 0 → m ≢ mark → Foreign ≡ found size i b
+pub found_unmarked : (size i m : ℕ) (b : List ℕ) → m ≡ field 0 b → m ≢ 0 → m ≢ mark → Err foreign ≡ found size i b
 unfolding found
 found_unmarked size i m b read some other = rw (ne_eqb (field 0 b) 0 (λ z. some (read ∙ z)), ne_eqb (field 0 b) mark (λ z. other (read ∙ z)))
 
 -- behind the mark it goes by the numbers
-marked : (size i m : ℕ) (b : List ℕ) (p : Part) → m ≡ field 0 b → m ≡ mark → p ≡ part_of b → found size i b ≡ cond (is_sound size i p) (IsPart p) Foreign
+marked : (size i m : ℕ) (b : List ℕ) (p : Part) → m ≡ field 0 b → m ≡ mark → p ≡ part_of b → found size i b ≡ cond (is_sound size i p) (Ok (Some p)) (Err foreign)
 unfolding found
 marked size i m b p read e q =
     let some : field 0 b ≢ 0 = λ z. omega arith in
     let ours : field 0 b ≡ mark = sym read ∙ e in
-    rw (ne_eqb (field 0 b) 0 some, eq-eqb (field 0 b) mark ours) (ap (λ (x : Part). cond (is_sound size i x) (IsPart x) Foreign) (sym q))
+    rw (ne_eqb (field 0 b) 0 some, eq-eqb (field 0 b) mark ours) (ap (λ (x : Part). cond (is_sound size i x) (Ok (Some x)) (Err foreign)) (sym q))
 
-pub found_part : (size i m : ℕ) (b : List ℕ) (p : Part) → m ≡ field 0 b → m ≡ mark → p ≡ part_of b → is_sound size i p ≡ true → IsPart p ≡ found size i b
-found_part size i m b p read e q sound = sym (marked size i m b p read e q ∙ ap (λ (s : Bool). cond s (IsPart p) Foreign) sound)
+pub found_part : (size i m : ℕ) (b : List ℕ) (p : Part) → m ≡ field 0 b → m ≡ mark → p ≡ part_of b → is_sound size i p ≡ true → Ok (Some p) ≡ found size i b
+found_part size i m b p read e q sound = sym (marked size i m b p read e q ∙ ap (λ (s : Bool). cond s (Ok (Some p)) (Err foreign)) sound)
 
-pub found_unsound : (size i m : ℕ) (b : List ℕ) (p : Part) → m ≡ field 0 b → m ≡ mark → p ≡ part_of b → is_sound size i p ≡ false → Foreign ≡ found size i b
-found_unsound size i m b p read e q sound = sym (marked size i m b p read e q ∙ ap (λ (s : Bool). cond s (IsPart p) Foreign) sound)
+pub found_unsound : (size i m : ℕ) (b : List ℕ) (p : Part) → m ≡ field 0 b → m ≡ mark → p ≡ part_of b → is_sound size i p ≡ false → Err foreign ≡ found size i b
+found_unsound size i m b p read e q sound = sym (marked size i m b p read e q ∙ ap (λ (s : Bool). cond s (Ok (Some p)) (Err foreign)) sound)
+
+pub ruleset finding = (found_blank, found_unmarked, found_part, found_unsound)

@@ -1,10 +1,9 @@
 -- Sectors of the journal.
 -- Assumes nothing.
-use Rattle.std.specs.Prelude.{ℕ, ◌%◌, Bool, cond, ◌&&◌, List, [], ◌∷◌, ◌++◌, take, drop, replicate, ◌==◌, nat_le, nat_lt}
+use Rattle.std.specs.Prelude.{ℕ, ◌%◌, Bool, cond, ◌&&◌, List, [], ◌∷◌, ◌++◌, take, drop, replicate, ◌==◌, nat_le, nat_lt, Some, None, Option, Ok, Err, Result}
 use Rattle.octets.specs.Numbers.{field, numbers_bytes}
 use Rattle.journal.specs.declared.part.Part.{Part}
-use Rattle.journal.specs.declared.part.Found.{Found}
-use Rattle.journal.specs.declared.part.Found.TheVariants.{Blank, Part as IsPart, Foreign}
+use Rattle.journal.specs.declared.part.Foreign.{Foreign}
 
 -- "kindovas"
 abbrev pub mark : ℕ
@@ -37,5 +36,12 @@ unfoldable pub is_sound : ℕ → ℕ → Part → Bool
 is_sound size i p =
     (nat_le 1 p.number && nat_lt p.number numbers_end) && p.index == i && (nat_lt i p.length && nat_le p.length slot_sectors && p.length % 2 == 0) && (nat_le guarded p.target.0 && nat_lt p.target.0 size)
 
+-- what a sector is found to be: blank, a part, or foreign
+abbrev pub Found : Type 0
+Found = Result (Option Part) Foreign
+
+abbrev pub foreign : Foreign
+foreign = record {}
+
 unfoldable pub found : ℕ → ℕ → List ℕ → Found
-found size i b = cond (field 0 b == 0) Blank (cond (field 0 b == mark && is_sound size i (part_of b)) (IsPart (part_of b)) Foreign)
+found size i b = cond (field 0 b == 0) (Ok None) (cond (field 0 b == mark && is_sound size i (part_of b)) (Ok (Some (part_of b))) (Err foreign))

@@ -1,23 +1,31 @@
 -- What the journal asks of its device, request by request.
 -- Assumes nothing.
-use Rattle.std.specs.Prelude.{ℕ, zero, suc, ◌+◌, ◌*◌, ◌/◌, ◌%◌, Bool, true, false, cond, not, ◌&&◌, ◌||◌, List, [], ◌∷◌, ◌++◌, length, take, drop, Some, None, Option, ◌==◌, nat_le, nat_lt, slice_index_or}
+use Rattle.std.specs.Prelude.{ℕ, zero, suc, ◌+◌, ◌*◌, ◌/◌, ◌%◌, Bool, true, false, cond, not, ◌&&◌, ◌||◌, List, [], ◌∷◌, ◌++◌, length, take, drop, Ok, Err, Result, ◌==◌, nat_le, nat_lt, slice_index_or}
+use Rattle.std.specs.List.{list_any, list_all}
 use Rattle.disks.specs.Device.{Io, answer, read, write, sync, then'}
-use Rattle.journal.specs.Format.{slot_sectors, guarded, numbers_end, part_bytes, part_of, half_of}
-use Rattle.journal.specs.Scans.{scan_start, scan_next, redo_number, redo_count, higher}
+use Rattle.journal.specs.Format.{slot_sectors, guarded, numbers_end, part_bytes, part_of, half_of, foreign}
+use Rattle.journal.specs.Scans.{scan_start, scan_next, number_or_none, redo_count, higher}
 use Rattle.journal.specs.declared.Place.{Place}
 use Rattle.journal.specs.declared.scan.Scan.{Scan}
 use Rattle.journal.specs.declared.state.Write.{Write}
 use Rattle.journal.specs.declared.state.Slot.{Slot}
 use Rattle.journal.specs.declared.state.Slot.TheVariants.{First, Second}
 use Rattle.journal.specs.declared.state.Journal.{Journal}
-use Rattle.journal.specs.declared.state.Opened.{Opened}
-use Rattle.journal.specs.declared.state.Opened.TheVariants.{Ready, Foreign}
-use Rattle.journal.specs.declared.state.Refused.{Refused as Refused'}
+use Rattle.journal.specs.declared.part.Foreign.{Foreign}
+use Rattle.journal.specs.declared.state.InOrder.{InOrder}
+use Rattle.journal.specs.declared.state.Refused.{Refused}
 use Rattle.journal.specs.declared.state.Refused.TheVariants.{OutOfRange, NumbersUsedUp}
-use Rattle.journal.specs.declared.state.Outcome.{Outcome}
-use Rattle.journal.specs.declared.state.Outcome.TheVariants.{Done, Refused}
-use Rattle.journal.specs.declared.state.Got.{Got}
-use Rattle.journal.specs.declared.state.Got.TheVariants.{Sector, Refused as GotRefused}
+
+-- what opening finds: a journal, or that it isn't ours
+abbrev pub Opened : Type 0
+Opened = Result Journal Foreign
+
+-- what putting and getting come to
+abbrev pub Outcome : Type 0
+Outcome = Result (Unit {0}) Refused
+
+abbrev pub Got : Type 0
+Got = Result (List ℕ) Refused
 
 abbrev pub base : Slot → ℕ
 base First = 0
@@ -28,13 +36,12 @@ other First = Second
 other Second = First
 
 -- the number of a refusal
-abbrev pub refusal : Refused' → ℕ
+abbrev pub refusal : Refused → ℕ
 refusal OutOfRange = 1
 refusal NumbersUsedUp = 8
 
-abbrev pub open_refusal : Opened → Option ℕ
-open_refusal (Ready j) = None
-open_refusal Foreign = Some 16
+abbrev pub foreign_refusal : Foreign → ℕ
+foreign_refusal e = 16
 
 -- sectors written one after the other
 unfoldable pub write_all_io : List Write → Io (Unit {0})
@@ -63,8 +70,7 @@ record_of at number ws = record_from at number ws 0 (2 * length ws)
 
 -- what a transaction may be
 unfoldable pub named : ℕ → List Write → Bool
-named s [] = false
-named s (w ∷ ws) = s == w.target.0 || named s ws
+named s ws = list_any (λ w. s == w.target.0) ws
 
 unfoldable pub apart : List Write → Bool
 apart [] = true
@@ -74,8 +80,7 @@ abbrev pub in_area : ℕ → ℕ → Bool
 in_area size s = nat_le guarded s && nat_lt s size
 
 unfoldable pub all_in_area : ℕ → List Write → Bool
-all_in_area size [] = true
-all_in_area size (w ∷ ws) = in_area size w.target.0 && all_in_area size ws
+all_in_area size ws = list_all (λ w. in_area size w.target.0) ws
 
 abbrev pub allowed : ℕ → List Write → Bool
 allowed size ws = (nat_le 1 (length ws) && nat_le (length ws) 240) && all_in_area size ws && apart ws
@@ -93,12 +98,12 @@ transact_io j ws = then' (write_all_io (record_of (base j.slot) j.next ws)) (λ 
 unfoldable pub put_io : Journal → List Write → Io Put'
 put_io j ws =
     cond (allowed j.size ws) (
-    cond (nat_lt j.next numbers_end) (then' (transact_io j ws) (λ _. answer (record { outcome = Done; journal = after_put j }))) (answer (record { outcome = Refused NumbersUsedUp; journal = j })))
-    (answer (record { outcome = Refused OutOfRange; journal = j }))
+    cond (nat_lt j.next numbers_end) (then' (transact_io j ws) (λ _. answer (record { outcome = Ok tt; journal = after_put j }))) (answer (record { outcome = Err NumbersUsedUp; journal = j })))
+    (answer (record { outcome = Err OutOfRange; journal = j }))
 
 -- GET: one read
 unfoldable pub get_io : Journal → Place → Io Got
-get_io j p = cond (in_area j.size p.0) (read p.0 (λ b. answer (Sector b))) (answer (GotRefused OutOfRange))
+get_io j p = cond (in_area j.size p.0) (read p.0 (λ b. answer (Ok b))) (answer (Err OutOfRange))
 
 -- OPEN: both slots are read; the complete records are done again, the older first; a sync
 unfoldable pub scan_from : (size at i k : ℕ) → Scan → Io Scan
@@ -122,11 +127,15 @@ ready size slot a b = record { size = size; next = above (higher a.highest b.hig
 unfoldable pub redo_io : Slot → Scan → Scan → Io (Unit {0})
 redo_io older a b = then' (replay_from (base older) 0 (redo_count a)) (λ _. then' (replay_from (base (other older)) 0 (redo_count b)) (λ _. sync (answer tt)))
 
+-- the slot with the older record, what it holds, and what the other holds
+abbrev pub in_order : Scan → Scan → InOrder
+in_order a b = cond (nat_lt (number_or_none b) (number_or_none a)) (record { older = Second; a = b; b = a }) (record { older = First; a = a; b = b })
+
 unfoldable pub recover_io : ℕ → Scan → Scan → Io Opened
 recover_io size a b =
     cond (a.ours && b.ours)
-    (cond (nat_lt (redo_number b) (redo_number a)) (then' (redo_io Second b a) (λ _. answer (Ready (ready size Second b a)))) (then' (redo_io First a b) (λ _. answer (Ready (ready size First a b)))))
-    (answer Foreign)
+    (cond (nat_lt (number_or_none b) (number_or_none a)) (then' (redo_io Second b a) (λ _. answer (Ok (ready size Second b a)))) (then' (redo_io First a b) (λ _. answer (Ok (ready size First a b)))))
+    (answer (Err foreign))
 
 unfoldable pub open_io : ℕ → Io Opened
 open_io size = then' (scan_io size First) (λ a. then' (scan_io size Second) (λ b. recover_io size a b))

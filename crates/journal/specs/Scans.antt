@@ -1,29 +1,33 @@
 -- What is found in a slot of the journal.
 -- Assumes nothing.
-use Rattle.std.specs.Prelude.{ℕ, zero, suc, ◌+◌, ◌*◌, ◌/◌, true, false, cond, ◌&&◌, ◌||◌, List, [], ◌∷◌, ◌++◌, ◌==◌, nat_le, nat_lt}
-use Rattle.journal.specs.Format.{slot_sectors, part_of, half_of, found}
+use Rattle.std.specs.Prelude.{ℕ, zero, suc, ◌+◌, ◌*◌, ◌/◌, Bool, true, false, cond, ◌&&◌, ◌||◌, List, [], ◌∷◌, ◌++◌, ◌==◌, nat_le, nat_lt, Some, None, Option, Ok, Err, unwrap_or}
+use Rattle.journal.specs.Format.{slot_sectors, part_of, half_of, Found, found}
 use Rattle.journal.specs.declared.part.Part.{Part}
-use Rattle.journal.specs.declared.part.Found.{Found}
-use Rattle.journal.specs.declared.part.Found.TheVariants.{Blank, Part as IsPart, Foreign}
+use Rattle.journal.specs.declared.scan.Record.{Record}
 use Rattle.journal.specs.declared.scan.Scan.{Scan}
 use Rattle.journal.specs.declared.state.Write.{Write}
 
 abbrev pub scan_start : Scan
-scan_start = record { number = 0; length = 0; whole = false; highest = 0; ours = true }
+scan_start = record { whole = None; highest = 0; ours = true }
 
 abbrev pub higher : ℕ → ℕ → ℕ
 higher a b = cond (nat_lt a b) b a
 
+-- the record, if it passes a test
+abbrev pub still : (Record → Bool) → Option Record → Option Record
+still f None = None
+still f (Some r) = cond (f r) (Some r) None
+
 -- the first sector says which record it is; the others, up to its length, must say the same
 unfoldable pub scan_part : ℕ → Part → Scan → Scan
 scan_part i p s =
-    cond (i == 0) (record { number = p.number; length = p.length; whole = true; highest = p.number; ours = s.ours })
-    (record { number = s.number; length = s.length; whole = s.whole && (nat_le s.length i || (p.number == s.number && p.length == s.length)); highest = higher s.highest p.number; ours = s.ours })
+    cond (i == 0) (record { whole = Some (record { number = p.number; length = p.length }); highest = p.number; ours = s.ours })
+    (record { whole = still (λ r. nat_le r.length i || (p.number == r.number && p.length == r.length)) s.whole; highest = higher s.highest p.number; ours = s.ours })
 
 unfoldable pub scan_found : ℕ → Found → Scan → Scan
-scan_found i Blank s = record { number = s.number; length = s.length; whole = s.whole && nat_le s.length i; highest = s.highest; ours = s.ours }
-scan_found i (IsPart p) s = scan_part i p s
-scan_found i Foreign s = record { number = s.number; length = s.length; whole = s.whole; highest = s.highest; ours = false }
+scan_found i (Ok None) s = record { whole = still (λ r. nat_le r.length i) s.whole; highest = s.highest; ours = s.ours }
+scan_found i (Ok (Some p)) s = scan_part i p s
+scan_found i (Err e) s = record { whole = s.whole; highest = s.highest; ours = false }
 
 abbrev pub scan_next : (size index : ℕ) → List ℕ → Scan → Scan
 scan_next size i b s = scan_found i (found size i b) s
@@ -33,12 +37,25 @@ unfoldable pub scanned : ℕ → (ℕ → List ℕ) → ℕ → Scan
 scanned size g zero = scan_start
 scanned size g (suc k) = scan_next size k (g k) (scanned size g k)
 
--- the number of the record that is to be done again, 0 if there is none, and how many writes it has
-abbrev pub redo_number : Scan → ℕ
-redo_number s = cond s.whole s.number 0
+-- the number of the record that is to be done again
+abbrev pub number_of : Option Record → Option ℕ
+number_of None = None
+number_of (Some r) = Some r.number
+
+abbrev pub redo_number : Scan → Option ℕ
+redo_number s = number_of s.whole
+
+-- the same for comparing: 0 if there is none
+abbrev pub number_or_none : Scan → ℕ
+number_or_none s = unwrap_or (redo_number s) 0
+
+-- and how many writes it has
+abbrev pub count_of : Option Record → ℕ
+count_of None = 0
+count_of (Some r) = cond (nat_le r.length slot_sectors) (r.length / 2) 0
 
 abbrev pub redo_count : Scan → ℕ
-redo_count s = cond (s.whole && nat_le s.length slot_sectors) (s.length / 2) 0
+redo_count s = count_of s.whole
 
 -- the i-th write of a record, and k writes from there on
 abbrev pub write_at : (ℕ → List ℕ) → ℕ → Write

@@ -23,9 +23,6 @@ pub const GUARDED: u64 = 960;
 // Numbers of records stay below this.
 pub const NUMBERS_END: u64 = 1 << 62;
 
-// By which number a device is refused whose journal isn't ours.
-pub const NOT_OURS: u8 = 16;
-
 // A sector of a house's device, from 0.
 #[derive(Clone, Copy, PartialEq, Eq)]
 pub struct Place(pub u64);

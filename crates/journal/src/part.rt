@@ -1,9 +1,9 @@
 // One sector of a record: which record, where in it, how long the record is, the sector that is to be written, and half of its bytes.
-ghost use Rattle.std.specs.Prelude.{◌≡◌, ◌++◌, take, drop};
-ghost use Rattle.octets.specs.Numbers.{field};
+ghost use Rattle.std.specs.Prelude.{◌≡◌, ◌++◌};
 ghost use Rattle.journal.specs.Format.{part_bytes, part_of, half_of, is_sound, found};
+ghost use Rattle.journal.specs.Programs.{foreign_refusal};
 
-use crate::state::{Write, is_guarded};
+use crate::state::is_guarded;
 use crate::{MARK, NUMBERS_END, Place, SLOT_SECTORS};
 use octets::{SECTOR_BYTES, reader};
 
@@ -24,12 +24,19 @@ pub struct Part {
     pub target: Place,
 }
 
-// What a sector of the journal is found to be.
-#[derive(Clone, Copy)]
-pub enum Found {
-    Blank,
-    Part(Part),
-    Foreign,
+// The device's journal isn't ours.
+#[derive(Clone, Copy, Debug, PartialEq, Eq)]
+pub struct Foreign;
+
+// The number that stands for it in an answer.
+impl From<Foreign> for u8 {
+    ghost from_gives = { λ e n. n ≡ foreign_refusal e };
+
+    fn from(e: Foreign) -> u8 {
+        match e {
+            Foreign => 16,
+        }
+    }
 }
 
 impl Part {
@@ -64,11 +71,38 @@ impl Part {
         }
     }
 
+    // The part that this sector holds, if it isn't blank, at this index of a slot, on a device of so many sectors.
+    #[tactic(auto, using(crate::proofs::Sectors::finding))]
+    pub fn found(
+        size: u64,
+        index: u64,
+        sector: &[u8; SECTOR_BYTES],
+    ) -> Result<Option<Part>, Foreign>
+        ensures { result ≡ found size index sector.now }
+    {
+        let Some((mark, _)) = reader::number(sector) else {
+            unreachable()
+        };
+        if mark == 0 {
+            return Ok(None);
+        }
+        if mark != MARK {
+            return Err(Foreign);
+        }
+        let part = Part::read(sector);
+        if part.is_sound(size, index) {
+            Ok(Some(part))
+        } else {
+            Err(Foreign)
+        }
+    }
+
     // Whether it can stand at this index of a slot, on a device of so many sectors.
+    #[tactic(auto, unfolding(crate::specs::Format::is_sound))]
     fn is_sound(&self, size: u64, index: u64) -> bool
         ensures { result ≡ is_sound size index self.now }
     {
-        let numbered = 1 <= self.number && self.number < NUMBERS_END;
+        let numbered = (1..NUMBERS_END).contains(&self.number);
         let placed = self.index == index
             && index < self.length
             && self.length <= SLOT_SECTORS
@@ -77,82 +111,8 @@ impl Part {
     }
 }
 
-impl Found {
-    // What this sector is, at this index of a slot, on a device of so many sectors.
-    pub fn read(size: u64, index: u64, sector: &[u8; SECTOR_BYTES]) -> Found
-        ensures { result ≡ found size index sector.now }
-    {
-        let mark = first_number(sector);
-        if mark == 0 {
-            return Found::Blank;
-        }
-        if mark != MARK {
-            return Found::Foreign;
-        }
-        let part = Part::read(sector);
-        if part.is_sound(size, index) {
-            Found::Part(part)
-        } else {
-            Found::Foreign
-        }
-    }
-}
-
-// The number that a sector begins with.
-fn first_number(sector: &[u8; SECTOR_BYTES]) -> u64
-    ensures { result ≡ field 0 sector.now }
-{
-    let Some((first, _)) = reader::number(sector) else {
-        unreachable()
-    };
-    first
-}
-
-// Fills a sector of a record with the first half of a write.
-pub fn fill_first_half(
-    number: u64,
-    index: u64,
-    length: u64,
-    write: &Write,
-    sector: &mut [u8; SECTOR_BYTES],
-)
-    ensures { sector.new ≡ part_bytes (record { number = number; index = index; length = length; target = write.now.target }) (take 256 write.now.bytes) }
-{
-    let Some(first) = write.bytes.first_chunk::<HALF_BYTES>() else {
-        unreachable()
-    };
-    let part = Part {
-        number,
-        index,
-        length,
-        target: write.target,
-    };
-    part.fill(first, sector);
-}
-
-// Fills a sector of a record with the second half of a write.
-pub fn fill_second_half(
-    number: u64,
-    index: u64,
-    length: u64,
-    write: &Write,
-    sector: &mut [u8; SECTOR_BYTES],
-)
-    ensures { sector.new ≡ part_bytes (record { number = number; index = index; length = length; target = write.now.target }) (drop 256 write.now.bytes) }
-{
-    let Some(second) = write.bytes.last_chunk::<HALF_BYTES>() else {
-        unreachable()
-    };
-    let part = Part {
-        number,
-        index,
-        length,
-        target: write.target,
-    };
-    part.fill(second, sector);
-}
-
 // The sector whose halves these two sectors of a record carry.
+#[tactic(auto, using(crate::proofs::Sectors::two_laid))]
 pub fn join_halves(a: &[u8; SECTOR_BYTES], b: &[u8; SECTOR_BYTES], out: &mut [u8; SECTOR_BYTES])
     ensures { out.new ≡ half_of a.now ++ half_of b.now }
 {

@@ -3,16 +3,21 @@ ghost use Rattle.std.specs.Prelude.{◌≡◌};
 ghost use Rattle.journal.specs.Scans.{scan_start, scan_part, scan_next, redo_number, redo_count};
 
 use crate::SLOT_SECTORS;
-use crate::part::{Found, Part};
+use crate::part::{Foreign, Part};
 use octets::SECTOR_BYTES;
 
-// number, length: of the record that the slot begins with; whole: all its sectors so far are its own;
-// highest: the highest number of any sector; ours: no sector was foreign.
-#[derive(Clone, Copy)]
-pub struct Scan {
+// Which record a part is of.
+#[derive(Clone, Copy, PartialEq, Eq)]
+pub struct Record {
     pub number: u64,
     pub length: u64,
-    pub whole: bool,
+}
+
+// whole: the record that the slot begins with, while all its sectors so far are its own; highest: the highest number of any sector;
+// ours: no sector was foreign, a flag, since the scan goes on behind a foreign sector: a slot is always read to its end.
+#[derive(Clone, Copy)]
+pub struct Scan {
+    pub whole: Option<Record>,
     pub highest: u64,
     pub ours: bool,
 }
@@ -23,25 +28,24 @@ impl Scan {
         ensures { result ≡ scan_start }
     {
         Scan {
-            number: 0,
-            length: 0,
-            whole: false,
+            whole: None,
             highest: 0,
             ours: true,
         }
     }
 
     // With one sector more, which stands at this index of the slot.
+    #[tactic(auto, unfolding(crate::specs::Scans::scan_found))]
     pub fn next(self, size: u64, index: u64, sector: &[u8; SECTOR_BYTES]) -> Scan
         ensures { result ≡ scan_next size index sector.now self }
     {
-        match Found::read(size, index, sector) {
-            Found::Blank => Scan {
-                whole: self.whole && self.length <= index,
+        match Part::found(size, index, sector) {
+            Ok(None) => Scan {
+                whole: self.whole.filter(|r| r.length <= index),
                 ..self
             },
-            Found::Part(part) => self.with_part(index, part),
-            Found::Foreign => Scan {
+            Ok(Some(part)) => self.with_part(index, part),
+            Err(Foreign) => Scan {
                 ours: false,
                 ..self
             },
@@ -49,41 +53,42 @@ impl Scan {
     }
 
     // The first part says which record it is; those after it, up to its length, must say the same.
+    #[tactic(auto, unfolding(crate::specs::Scans::scan_part))]
     fn with_part(self, index: u64, part: Part) -> Scan
         ensures { result ≡ scan_part index part self }
     {
+        let said = Record {
+            number: part.number,
+            length: part.length,
+        };
         if index == 0 {
             return Scan {
-                number: part.number,
-                length: part.length,
-                whole: true,
+                whole: Some(said),
                 highest: part.number,
-                ours: self.ours,
+                ..self
             };
         }
-        let same = part.number == self.number && part.length == self.length;
         Scan {
-            whole: self.whole && (self.length <= index || same),
+            whole: self.whole.filter(|r| r.length <= index || *r == said),
             highest: self.highest.max(part.number),
             ..self
         }
     }
 
-    // The number of the record that is to be done again, 0 if there is none.
-    pub fn redo_number(self) -> u64
+    // The number of the record that is to be done again, if there is one.
+    pub fn redo_number(self) -> Option<u64>
         ensures { result ≡ redo_number self }
     {
-        if self.whole { self.number } else { 0 }
+        self.whole.map(|r| r.number)
     }
 
     // How many writes the record has that is to be done again.
     pub fn redo_count(self) -> u64
         ensures { result ≡ redo_count self }
     {
-        if self.whole && self.length <= SLOT_SECTORS {
-            self.length / 2
-        } else {
-            0
+        match self.whole {
+            Some(r) if r.length <= SLOT_SECTORS => r.length / 2,
+            _ => 0,
         }
     }
 }

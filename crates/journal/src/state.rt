@@ -1,10 +1,11 @@
-// What the journal keeps in memory, what it is asked to write, and what it answers.
-ghost use Rattle.std.specs.Prelude.{◌≡◌, ◌<◌};
+// What the journal keeps in memory, what it is asked to write, and why it refuses.
+ghost use Rattle.std.specs.Prelude.{◌≡◌, ◌<◌, take, drop};
 ghost use Rattle.journal.specs.Format.{numbers_end};
-ghost use Rattle.journal.specs.Programs.{base, other, ready, after_put, in_area, all_in_area, named, apart, allowed, refusal, open_refusal};
+ghost use Rattle.journal.specs.Programs.{base, other, in_order, ready, after_put, in_area, all_in_area, named, apart, allowed, refusal};
 
+use crate::part::HALF_BYTES;
 use crate::scan::Scan;
-use crate::{GUARDED, MOST_WRITES, NOT_OURS, NUMBERS_END, Place, SLOT_SECTORS};
+use crate::{GUARDED, MOST_WRITES, NUMBERS_END, Place, SLOT_SECTORS};
 use octets::SECTOR_BYTES;
 
 // One sector of a transaction.
@@ -21,6 +22,14 @@ pub enum Slot {
     Second,
 }
 
+// What the two slots were found to hold, in the order in which it is done again: older is the slot of a.
+#[derive(Clone, Copy)]
+pub struct InOrder {
+    pub older: Slot,
+    pub a: Scan,
+    pub b: Scan,
+}
+
 // size: the device's sectors; next: the number of the next record; slot: where it goes.
 #[derive(Clone, Copy)]
 pub struct Journal {
@@ -29,15 +38,8 @@ pub struct Journal {
     pub slot: Slot,
 }
 
-// What opening finds.
-#[derive(Clone, Copy)]
-pub enum Opened {
-    Ready(Journal),
-    Foreign,
-}
-
 // Why the journal refuses.
-#[derive(Clone, Copy)]
+#[derive(Clone, Copy, Debug, PartialEq, Eq)]
 pub enum Refused {
     // no writes or too many, a sector outside the guarded area, or one twice
     OutOfRange,
@@ -45,16 +47,32 @@ pub enum Refused {
     NumbersUsedUp,
 }
 
-#[derive(Clone, Copy)]
-pub enum Outcome {
-    Done,
-    Refused(Refused),
+// The number that stands for it in an answer.
+impl From<Refused> for u8 {
+    ghost from_gives = { λ e n. n ≡ refusal e };
+
+    fn from(e: Refused) -> u8 {
+        match e {
+            Refused::OutOfRange => 1,
+            Refused::NumbersUsedUp => 8,
+        }
+    }
 }
 
-#[derive(Clone, Copy)]
-pub enum Got {
-    Sector([u8; SECTOR_BYTES]),
-    Refused(Refused),
+impl Write {
+    // Both halves of its bytes.
+    pub fn halves(&self) -> (&[u8; HALF_BYTES], &[u8; HALF_BYTES])
+        ensures first { result.0.now ≡ take 256 self.now.bytes }
+        ensures second { result.1.now ≡ drop 256 self.now.bytes }
+    {
+        let Some(first) = self.bytes.first_chunk::<HALF_BYTES>() else {
+            unreachable()
+        };
+        let Some(second) = self.bytes.last_chunk::<HALF_BYTES>() else {
+            unreachable()
+        };
+        (first, second)
+    }
 }
 
 impl Slot {
@@ -79,18 +97,38 @@ impl Slot {
     }
 }
 
+impl InOrder {
+    // The lower number is the older record's; a slot without a record comes before one with a record.
+    pub fn of(first: Scan, second: Scan) -> InOrder
+        ensures { result ≡ in_order first second }
+    {
+        if second.redo_number().unwrap_or(0) < first.redo_number().unwrap_or(0) {
+            InOrder {
+                older: Slot::Second,
+                a: second,
+                b: first,
+            }
+        } else {
+            InOrder {
+                older: Slot::First,
+                a: first,
+                b: second,
+            }
+        }
+    }
+}
+
 impl Journal {
     // As it is opened: the next number is above all that the two slots hold.
-    pub fn ready(size: u64, slot: Slot, a: Scan, b: Scan) -> Journal
-        ensures { result ≡ ready size slot a b }
+    pub fn ready(size: u64, found: InOrder) -> Journal
+        ensures { result ≡ ready size found.older found.a found.b }
     {
-        let highest = a.highest.max(b.highest);
-        let next = if highest < NUMBERS_END {
-            highest + 1
-        } else {
-            NUMBERS_END
-        };
-        Journal { size, next, slot }
+        let highest = found.a.highest.max(found.b.highest);
+        Journal {
+            size,
+            next: highest.saturating_add(1).min(NUMBERS_END),
+            slot: found.older,
+        }
     }
 
     // As it is with one record more.
@@ -99,33 +137,9 @@ impl Journal {
         ensures { result ≡ after_put self }
     {
         Journal {
-            size: self.size,
             next: self.next + 1,
             slot: self.slot.opposite(),
-        }
-    }
-}
-
-impl Opened {
-    // By which number the device is refused, if it is.
-    pub fn refusal(self) -> Option<u8>
-        ensures { result ≡ open_refusal self }
-    {
-        match self {
-            Opened::Ready(_) => None,
-            Opened::Foreign => Some(NOT_OURS),
-        }
-    }
-}
-
-impl Refused {
-    // The number that stands for it in an answer.
-    pub fn number(self) -> u8
-        ensures { result ≡ refusal self }
-    {
-        match self {
-            Refused::OutOfRange => 1,
-            Refused::NumbersUsedUp => 8,
+            ..self
         }
     }
 }
@@ -134,51 +148,36 @@ impl Refused {
 pub fn is_guarded(size: u64, at: Place) -> bool
     ensures { result ≡ in_area size at.0 }
 {
-    GUARDED <= at.0 && at.0 < size
+    (GUARDED..size).contains(&at.0)
 }
 
 // Whether these writes can be one transaction.
 pub fn is_allowed(size: u64, writes: &[Write]) -> bool
     ensures { result ≡ allowed size writes.now }
 {
-    1 <= writes.len()
-        && writes.len() <= MOST_WRITES
-        && are_guarded(size, writes)
-        && are_apart(writes)
+    (1..=MOST_WRITES).contains(&writes.len()) && are_guarded(size, writes) && are_apart(writes)
 }
 
 // Whether the journal guards each sector that is written.
 fn are_guarded(size: u64, writes: &[Write]) -> bool
     ensures { result ≡ all_in_area size writes.now }
 {
-    for write in writes {
-        if !is_guarded(size, write.target) {
-            return false;
-        }
-    }
-    true
+    writes.iter().all(|write| is_guarded(size, write.target))
 }
 
 // Whether no sector is written twice.
 fn are_apart(writes: &[Write]) -> bool
     ensures { result ≡ apart writes.now }
 {
-    for (i, write) in writes.iter().enumerate() {
-        if is_written(write.target, &writes[i + 1..]) {
-            return false;
-        }
-    }
-    true
+    writes
+        .iter()
+        .enumerate()
+        .all(|(i, write)| !is_written(write.target, &writes[i + 1..]))
 }
 
 // Whether one of these writes is to this sector.
 fn is_written(at: Place, writes: &[Write]) -> bool
     ensures { result ≡ named at.0 writes.now }
 {
-    for write in writes {
-        if write.target == at {
-            return true;
-        }
-    }
-    false
+    writes.iter().any(|write| write.target == at)
 }

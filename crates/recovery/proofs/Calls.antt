@@ -1,5 +1,5 @@
 -- Calls on a journal that is on: what each answers and leaves, and what is left where it is cut.
-use Rattle.std.proofs.Common.{◌≡◌, ℕ, ◌+◌, ◌<◌, ◌≤◌, Bool, true, false, cond, ◌&&◌, T, ltb, leb, ◌⊎◌, List, length, refl, ap, ◌∙◌, subst, inl, inr, arith, ltb-true, leb-true}
+use Rattle.std.proofs.Common.{◌≡◌, ℕ, ◌+◌, ◌<◌, ◌≤◌, Bool, true, false, cond, ◌&&◌, T, ltb, leb, ◌⊎◌, List, length, refl, ap, ◌∙◌, subst, inl, inr, arith, ltb-true, leb-true, Ok, Err}
 use Rattle.disks.specs.Device.{Device, Io, answer, read, sync, run, Ran, Upto, here, reads, syncs, synced, then', AfterCut}
 use Rattle.compose.proofs.Compose.{run_then, upto_then, upto_map}
 use Rattle.journal.specs.Programs.{base, in_area, all_in_area, apart, allowed, write_all_io, record_of, transact_io, put_io, Put', get_io, after_put}
@@ -8,8 +8,6 @@ use Rattle.journal.specs.declared.Place.{Place}
 use Rattle.journal.specs.declared.state.Write.{Write}
 use Rattle.journal.specs.declared.state.Journal.{Journal}
 use Rattle.journal.specs.declared.state.Refused.TheVariants.{OutOfRange, NumbersUsedUp}
-use Rattle.journal.specs.declared.state.Outcome.TheVariants.{Done, Refused}
-use Rattle.journal.specs.declared.state.Got.TheVariants.{Sector, Refused as GotRefused}
 use Rattle.recovery.proofs.Writing.{all_upto}
 use Rattle.recovery.proofs.Inv.{Off, On}
 use Rattle.recovery.proofs.Cutting.{rest-cut, record_cut, placed, put_on}
@@ -36,13 +34,13 @@ fine size ws t =
 
 module _ (size n : ℕ) (array : ℕ → List ℕ) (j : Journal) (d : Device) (on : On size n array j d) where
   -- GET
-  pub get_run : (p : Place) → T (in_area size p.0) → run (get_io j p) d ≡ record { value = Sector (array p.0); device = d }
+  pub get_run : (p : Place) → T (in_area size p.0) → run (get_io j p) d ≡ record { value = Ok (array p.0); device = d }
   unfolding get_io run
   get_run p t =
       let e : in_area j.size p.0 ≡ true = ap (λ (z : ℕ). in_area z p.0) on.safe.size_is ∙ is_so (in_area size p.0) t in
-      rw e (ap (λ (b : List ℕ). record { value = Sector b; device = d }) (on.shows p.0 t))
+      rw e (ap (λ (b : List ℕ). record { value = Ok b; device = d }) (on.shows p.0 t))
 
-  pub get_refused : (p : Place) → in_area size p.0 ≡ false → run (get_io j p) d ≡ record { value = GotRefused OutOfRange; device = d }
+  pub get_refused : (p : Place) → in_area size p.0 ≡ false → run (get_io j p) d ≡ record { value = Err OutOfRange; device = d }
   unfolding get_io run
   get_refused p t =
       let e : in_area j.size p.0 ≡ false = ap (λ (z : ℕ). in_area z p.0) on.safe.size_is ∙ t in
@@ -52,14 +50,14 @@ module _ (size n : ℕ) (array : ℕ → List ℕ) (j : Journal) (d : Device) (o
   unfolding get_io
   get_upto p e u = go (in_area j.size p.0) e u
     where
-      go : (b : Bool) (e : Device) → Upto (cond b (read p.0 (λ b. answer (Sector b))) (answer (GotRefused OutOfRange))) d e → e ≡ d
+      go : (b : Bool) (e : Device) → Upto (cond b (read p.0 (λ b. answer (Ok b))) (answer (Err OutOfRange))) d e → e ≡ d
       go true e here = refl
       go true e (reads here) = refl
       go false e here = refl
 
   -- PUT
   module _ (fits : size ≤ 1099511627776) (ws : List Write) (sectors : T (whole_sectors ws)) where
-    pub put_refused : allowed size ws ≡ false → run (put_io j ws) d ≡ record { value = record { outcome = Refused OutOfRange; journal = j }; device = d }
+    pub put_refused : allowed size ws ≡ false → run (put_io j ws) d ≡ record { value = record { outcome = Err OutOfRange; journal = j }; device = d }
     unfolding put_io run
     put_refused t =
         let e : allowed j.size ws ≡ false = ap (λ (z : ℕ). allowed z ws) on.safe.size_is ∙ t in
@@ -68,7 +66,7 @@ module _ (size n : ℕ) (array : ℕ → List ℕ) (j : Journal) (d : Device) (o
     is_allowed : T (allowed size ws) → allowed j.size ws ≡ true
     is_allowed t = ap (λ (z : ℕ). allowed z ws) on.safe.size_is ∙ is_so (allowed size ws) t
 
-    pub put-used-up : T (allowed size ws) → ltb j.next 4611686018427387904 ≡ false → run (put_io j ws) d ≡ record { value = record { outcome = Refused NumbersUsedUp; journal = j }; device = d }
+    pub put-used-up : T (allowed size ws) → ltb j.next 4611686018427387904 ≡ false → run (put_io j ws) d ≡ record { value = record { outcome = Err NumbersUsedUp; journal = j }; device = d }
     unfolding put_io run
     put-used-up t l = rw (is_allowed t, l)
 
@@ -84,22 +82,22 @@ module _ (size n : ℕ) (array : ℕ → List ℕ) (j : Journal) (d : Device) (o
       unfolding transact_io run
       transact_run = run_then (write_all_io (record_of (base j.slot) j.next ws)) (λ _. sync (write_all_io ws)) d
 
-      put_is : put_io j ws ≡ then' (transact_io j ws) (λ _. answer (record { outcome = Done; journal = after_put j }))
+      put_is : put_io j ws ≡ then' (transact_io j ws) (λ _. answer (record { outcome = Ok tt; journal = after_put j }))
       unfolding put_io
       put_is = rw (is_allowed t, l)
 
-      pub put_run : run (put_io j ws) d ≡ record { value = record { outcome = Done; journal = after_put j }; device = (run (write_all_io ws) recorded).device }
+      pub put_run : run (put_io j ws) d ≡ record { value = record { outcome = Ok tt; journal = after_put j }; device = (run (write_all_io ws) recorded).device }
       unfolding run
       put_run =
-          ap (λ (p : Io Put'). run p d) put_is ∙ run_then (transact_io j ws) (λ _. answer (record { outcome = Done; journal = after_put j })) d
-          ∙ ap (λ (r : Ran (Unit {0})). record { value = record { outcome = Done; journal = after_put j }; device = r.device }) transact_run
+          ap (λ (p : Io Put'). run p d) put_is ∙ run_then (transact_io j ws) (λ _. answer (record { outcome = Ok tt; journal = after_put j })) d
+          ∙ ap (λ (r : Ran (Unit {0})). record { value = record { outcome = Ok tt; journal = after_put j }; device = r.device }) transact_run
 
       pub put-after : On size (n + 1) (λ s. last ws (array s) s) (after_put j) (run (write_all_io ws) recorded).device
       put-after = let f = fine size ws t in put_on size n array j d on.safe on.shows ws f.one f.few f.area sectors fits left
 
       pub put-cut : (e f : Device) → Upto (put_io j ws) d e → AfterCut e f → Off size (n + 1) array f ⊎ Off size (n + 1) (λ s. last ws (array s) s) f
       unfolding transact_io
-      put-cut e f u c = by (upto_map (transact_io j ws) (λ _. record { outcome = Done; journal = after_put j }) d e (subst (λ (p : Io Put'). Upto p d e) put_is u))
+      put-cut e f u c = by (upto_map (transact_io j ws) (λ _. record { outcome = Ok tt; journal = after_put j }) d e (subst (λ (p : Io Put'). Upto p d e) put_is u))
         where
           x : Fine size ws
           x = fine size ws t
@@ -121,7 +119,7 @@ module _ (size n : ℕ) (array : ℕ → List ℕ) (j : Journal) (d : Device) (o
     put-still no' e u = go (allowed j.size ws) (ltb j.next 4611686018427387904) (ap (λ (z : ℕ). allowed z ws) on.safe.size_is) refl e u
       where
         go : (a b : Bool) → a ≡ allowed size ws → b ≡ ltb j.next 4611686018427387904 → (e : Device) →
-            Upto {A = Put'} (cond a (cond b (then' (transact_io j ws) (λ _. answer (record { outcome = Done; journal = after_put j }))) (answer (record { outcome = Refused NumbersUsedUp; journal = j }))) (answer (record { outcome = Refused OutOfRange; journal = j }))) d e → e ≡ d
+            Upto {A = Put'} (cond a (cond b (then' (transact_io j ws) (λ _. answer (record { outcome = Ok tt; journal = after_put j }))) (answer (record { outcome = Err NumbersUsedUp; journal = j }))) (answer (record { outcome = Err OutOfRange; journal = j }))) d e → e ≡ d
         go true true p q e u = absurd (no' (subst (λ (z : Bool). T (z && ltb j.next 4611686018427387904)) p (subst T q tt)))
         go true false p q e here = refl
         go false b p q e here = refl

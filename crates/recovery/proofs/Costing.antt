@@ -1,22 +1,18 @@
 -- What transactions and opening cost, and what opening makes of any device.
-use Rattle.std.proofs.Common.{◌≡◌, ℕ, zero, suc, ◌+◌, ◌*◌, ◌<◌, ◌≤◌, Bool, true, false, cond, ◌&&◌, T, eqb, ltb, ◌≢◌, ◌⊎◌, List, [], ◌∷◌, ◌++◌, length, sym, refl, ap, ◌∙◌, subst, inl, inr, arith, lt-ltb, eqb-true}
+use Rattle.std.proofs.Common.{◌≡◌, ℕ, zero, suc, ◌+◌, ◌*◌, ◌<◌, ◌≤◌, Bool, true, false, cond, ◌&&◌, T, eqb, ltb, ◌≢◌, ◌⊎◌, List, [], ◌∷◌, ◌++◌, length, sym, refl, ap, ◌∙◌, subst, inl, inr, arith, lt-ltb, eqb-true, Ok, Err, Some, None}
 use borrow.Author.Tests.{eqb-false}
 use Rattle.disks.specs.Device.{Device, Io, answer, read, write, sync, run, Ran, shown, written, synced, then'}
 use Rattle.compose.proofs.Compose.{run_then}
-use Rattle.journal.specs.Format.{found, part_of, half_of}
-use Rattle.journal.specs.Scans.{scan_start, scan_next, scan_found, scan_part, scanned, redo_number, redo_count}
-use Rattle.journal.specs.Programs.{base, other, allowed, write_all_io, record_from, record_of, transact_io, put_io, scan_from, scan_io, replay_from, redo_io, recover_io, open_io, ready}
+use Rattle.journal.specs.Format.{found, part_of, half_of, foreign, Found}
+use Rattle.journal.specs.Scans.{scan_start, scan_next, scan_found, scan_part, scanned, number_or_none, redo_count}
+use Rattle.journal.specs.Programs.{base, other, allowed, write_all_io, record_from, record_of, transact_io, put_io, scan_from, scan_io, replay_from, redo_io, recover_io, open_io, ready, Opened}
 use Rattle.recovery.specs.Promises.{count, PutCosts, OpenCosts, OpensAgain, ForeignRefused, OursOpened}
 use Rattle.journal.specs.declared.part.Part.{Part}
-use Rattle.journal.specs.declared.part.Found.{Found}
-use Rattle.journal.specs.declared.part.Found.TheVariants.{Blank, Part as IsPart, Foreign as IsForeign}
 use Rattle.journal.specs.declared.scan.Scan.{Scan}
 use Rattle.journal.specs.declared.state.Write.{Write}
 use Rattle.journal.specs.declared.state.Slot.{Slot}
 use Rattle.journal.specs.declared.state.Slot.TheVariants.{First, Second}
 use Rattle.journal.specs.declared.state.Journal.{Journal}
-use Rattle.journal.specs.declared.state.Opened.{Opened}
-use Rattle.journal.specs.declared.state.Opened.TheVariants.{Ready, Foreign}
 use Rattle.recovery.proofs.Redoing.{slot_of, scan_run, redo_few}
 use Rattle.recovery.proofs.Opening.{opens, opens-cut}
 use Rattle.recovery.proofs.Keeping.{held}
@@ -84,12 +80,12 @@ count_redo o a b d =
 
 count_recover : (size : ℕ) (a b : Scan) (d : Device) → count 1 1 1 (recover_io size a b) d ≤ 1441
 unfolding recover_io count
-count_recover size a b d = go (a.ours && b.ours) (ltb (redo_number b) (redo_number a))
+count_recover size a b d = go (a.ours && b.ours) (ltb (number_or_none b) (number_or_none a))
   where
-    one : (o : Slot) (x y : Scan) → count 1 1 1 (then' (redo_io o x y) (λ _. answer (Ready (ready size o x y)))) d ≤ 1441
-    one o x y = let c = count_then 1 1 1 (redo_io o x y) (λ _. answer (Ready (ready size o x y))) d in omega (arith, count_redo o x y d)
+    one : (o : Slot) (x y : Scan) → count {A = Opened} 1 1 1 (then' (redo_io o x y) (λ _. answer (Ok (ready size o x y)))) d ≤ 1441
+    one o x y = let c = count_then {B = Opened} 1 1 1 (redo_io o x y) (λ _. answer (Ok (ready size o x y))) d in omega (arith, count_redo o x y d)
 
-    go : (u v : Bool) → count 1 1 1 (cond u (cond v (then' (redo_io Second b a) (λ _. answer (Ready (ready size Second b a)))) (then' (redo_io First a b) (λ _. answer (Ready (ready size First a b))))) (answer Foreign)) d ≤ 1441
+    go : (u v : Bool) → count {A = Opened} 1 1 1 (cond u (cond v (then' (redo_io Second b a) (λ _. answer (Ok (ready size Second b a)))) (then' (redo_io First a b) (λ _. answer (Ok (ready size First a b))))) (answer (Err foreign))) d ≤ 1441
     go true true = one Second b a
     go true false = one First a b
     go false v = omega arith
@@ -124,31 +120,31 @@ unfolding scan_part
 part-ours k p s = cond-ours (eqb k 0) _ _ s.ours refl refl
 
 -- one sector more
-found_ours : (k : ℕ) (x : Found) (s : Scan) → x ≢ IsForeign → (scan_found k x s).ours ≡ s.ours
+found_ours : (k : ℕ) (x : Found) (s : Scan) → x ≢ Err foreign → (scan_found k x s).ours ≡ s.ours
 unfolding scan_found
-found_ours k Blank s ne = refl
-found_ours k (IsPart p) s ne = part-ours k p s
-found_ours k IsForeign s ne = absurd (ne refl)
+found_ours k (Ok None) s ne = refl
+found_ours k (Ok (Some p)) s ne = part-ours k p s
+found_ours k (Err e) s ne = absurd (ne refl)
 
 stays-false : (size : ℕ) (g : ℕ → List ℕ) (k : ℕ) → (scanned size g k).ours ≡ false → (scanned size g (suc k)).ours ≡ false
 unfolding scanned scan_found
 stays-false size g k e = go (found size k (g k))
   where
     go : (x : Found) → (scan_found k x (scanned size g k)).ours ≡ false
-    go Blank = e
-    go (IsPart p) = part-ours k p (scanned size g k) ∙ e
-    go IsForeign = refl
+    go (Ok None) = e
+    go (Ok (Some p)) = part-ours k p (scanned size g k) ∙ e
+    go (Err e) = refl
 
-is_foreign : (size : ℕ) (g : ℕ → List ℕ) (i k : ℕ) → i < k → found size i (g i) ≡ IsForeign → (scanned size g k).ours ≡ false
+is_foreign : (size : ℕ) (g : ℕ → List ℕ) (i k : ℕ) → i < k → found size i (g i) ≡ Err foreign → (scanned size g k).ours ≡ false
 unfolding scanned scan_found
 is_foreign size g i zero l e = absurd (omega arith)
 is_foreign size g i (suc k) l e = go (eqb i k) refl (λ m. is_foreign size g i k m e)
   where
     go : (b : Bool) → eqb i k ≡ b → (i < k → (scanned size g k).ours ≡ false) → (scanned size g (suc k)).ours ≡ false
-    go true q before = let e' = subst (λ (z : ℕ). found size z (g z) ≡ IsForeign) (eqb-true i k q) e in rw e'
+    go true q before = let e' = subst (λ (z : ℕ). found size z (g z) ≡ Err foreign) (eqb-true i k q) e in rw e'
     go false q before = stays-false size g k (before (omega (arith, eqb-false i k q)))
 
-no_foreign : (size : ℕ) (g : ℕ → List ℕ) (k : ℕ) → ((i : ℕ) → i < k → found size i (g i) ≢ IsForeign) → (scanned size g k).ours ≡ true
+no_foreign : (size : ℕ) (g : ℕ → List ℕ) (k : ℕ) → ((i : ℕ) → i < k → found size i (g i) ≢ Err foreign) → (scanned size g k).ours ≡ true
 unfolding scanned
 no_foreign size g zero e = refl
 no_foreign size g (suc k) e = found_ours k (found size k (g k)) (scanned size g k) (e k (omega arith)) ∙ no_foreign size g k (λ i l. e i (omega arith))
@@ -166,14 +162,14 @@ module _ (size : ℕ) (d : Device) where
       ∙ run_then (scan_io size Second) (λ b. recover_io size (scanned size (slot_of d First) 480) b) d
       ∙ ap (λ (r : Ran Scan). run (recover_io size (scanned size (slot_of d First) 480) r.value) r.device) (slot_run Second)
 
-  refused : (scanned size (slot_of d First) 480).ours && (scanned size (slot_of d Second) 480).ours ≡ false → run (open_io size) d ≡ record { value = Foreign; device = d }
+  refused : (scanned size (slot_of d First) 480).ours && (scanned size (slot_of d Second) 480).ours ≡ false → run (open_io size) d ≡ record { value = Err foreign; device = d }
   unfolding recover_io run
   refused e = recover_run ∙ rw e
 
-  accepted : (scanned size (slot_of d First) 480).ours && (scanned size (slot_of d Second) 480).ours ≡ true → (j : Journal) × ((run (open_io size) d).value ≡ Ready j)
+  accepted : (scanned size (slot_of d First) 480).ours && (scanned size (slot_of d Second) 480).ours ≡ true → (j : Journal) × ((run (open_io size) d).value ≡ Ok j)
   unfolding recover_io run
   accepted e =
-      let x = go (ltb (redo_number (scanned size (slot_of d Second) 480)) (redo_number (scanned size (slot_of d First) 480))) in
+      let x = go (ltb (number_or_none (scanned size (slot_of d Second) 480)) (number_or_none (scanned size (slot_of d First) 480))) in
       (x.0, ap (λ (r : Ran Opened). r.value) recover_run ∙ rw e x.1)
     where
       a : Scan
@@ -182,9 +178,9 @@ module _ (size : ℕ) (d : Device) where
       b : Scan
       b = scanned size (slot_of d Second) 480
 
-      go : (v : Bool) → (j : Journal) × ((run (cond v (then' (redo_io Second b a) (λ _. answer (Ready (ready size Second b a)))) (then' (redo_io First a b) (λ _. answer (Ready (ready size First a b))))) d).value ≡ Ready j)
-      go true = (ready size Second b a, ap (λ (r : Ran Opened). r.value) (run_then (redo_io Second b a) (λ _. answer (Ready (ready size Second b a))) d))
-      go false = (ready size First a b, ap (λ (r : Ran Opened). r.value) (run_then (redo_io First a b) (λ _. answer (Ready (ready size First a b))) d))
+      go : (v : Bool) → (j : Journal) × ((run {A = Opened} (cond v (then' (redo_io Second b a) (λ _. answer (Ok (ready size Second b a)))) (then' (redo_io First a b) (λ _. answer (Ok (ready size First a b))))) d).value ≡ Ok j)
+      go true = (ready size Second b a, ap (λ (r : Ran Opened). r.value) (run_then (redo_io Second b a) (λ _. answer (Ok (ready size Second b a))) d))
+      go false = (ready size First a b, ap (λ (r : Ran Opened). r.value) (run_then (redo_io First a b) (λ _. answer (Ok (ready size First a b))) d))
 
 either-false : (x y : Bool) → (x ≡ false) ⊎ (y ≡ false) → x && y ≡ false
 either-false true y (inl e) = absurd (subst T e tt)

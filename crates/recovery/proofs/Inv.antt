@@ -1,16 +1,16 @@
 -- What holds of a device and a journal's memory, with the power off and on. The array is what the guarded sectors are to show.
 -- Off: doing the complete records again, the older first, gives the array. Safe: wherever the device is cut, doing again the newer record alone, or
 -- both, gives the array; so the older one's slot may be written over. On: and the device shows the array.
-use Rattle.std.proofs.Common.{◌≡◌, ℕ, ◌+◌, ◌<◌, ◌≤◌, Bool, true, false, cond, T, ltb, ◌⊎◌, List, [], ◌∷◌, ◌++◌, length, refl, ap, ◌∙◌, subst, inl, inr, append-nil, arith, le-ltb, lt-ltb}
+use Rattle.std.proofs.Common.{◌≡◌, ℕ, ◌+◌, ◌<◌, ◌≤◌, Bool, true, false, cond, T, ltb, ◌⊎◌, List, [], ◌∷◌, ◌++◌, length, refl, ap, ◌∙◌, subst, inl, inr, append-nil, arith, le-ltb, lt-ltb, Ok, Some, None, Option, unwrap_or}
 use mathlib.Core.List.Memᴰ
 use mathlib.Core.List.{Memᴰ}
 use Rattle.disks.specs.Device.{Device, shown, latest, AfterCut, all_bytes}
 use Rattle.journal.specs.Format.{found}
-use Rattle.journal.specs.Scans.{scanned, redo_number, redo_count, writes_from}
+use Rattle.journal.specs.Scans.{scanned, number_of, number_or_none, redo_count, writes_from}
 use Rattle.journal.specs.Programs.{base, other, in_area}
 use Rattle.recovery.specs.Machines.{last}
 use Rattle.journal.specs.declared.part.Part.{Part}
-use Rattle.journal.specs.declared.part.Found.TheVariants.{Part as IsPart}
+use Rattle.journal.specs.declared.scan.Record.{Record}
 use Rattle.journal.specs.declared.state.Write.{Write}
 use Rattle.journal.specs.declared.state.Slot.{Slot}
 use Rattle.journal.specs.declared.state.Slot.TheVariants.{First, Second}
@@ -66,37 +66,37 @@ ours_more size m n i b l (inl e) = inl e
 ours_more size m n i b l (inr q) = let (p, e, k) = q in inr (p, e, omega arith)
 
 pub number_cong : (size : ℕ) (g h : ℕ → List ℕ) → ((i : ℕ) → i < 480 → g i ≡ h i) → number_in size g ≡ number_in size h
-number_cong size g h e = ap redo_number (scan_cong size g h 480 e)
+number_cong size g h e = ap number_or_none (scan_cong size g h 480 e)
 
 pub writes_in_cong : (size : ℕ) (g h : ℕ → List ℕ) → ((i : ℕ) → i < 480 → g i ≡ h i) → writes_in size g ≡ writes_in size h
 writes_in_cong size g h e = let c = redo_few (scanned size g 480) in writes_cong g h 0 (redo_count (scanned size g 480)) (λ q l. e q (omega arith)) ∙ ap (λ k. writes_from h 0 (redo_count k)) (scan_cong size g h 480 e)
 
 -- of sectors that are ours: the number is no higher than any; and no number means no writes
 module _ (size most : ℕ) (g : ℕ → List ℕ) (ours : (i : ℕ) → i < 480 → Ours size most i (g i)) where
-  is_some : (scanned size g 480).whole ≡ true → (1 ≤ (scanned size g 480).number) × ((scanned size g 480).number ≤ most)
-  is_some e =
-      let w = whole_found size g most ours e in
+  is_some : (r : Record) → (scanned size g 480).whole ≡ Some r → (1 ≤ r.number) × (r.number ≤ most)
+  is_some r e =
+      let w = whole_found size g most ours r e in
       let (p, f, a, b) = w.each 0 w.some in
       let s = (found_is size 0 (g 0) p f).1 in
       (omega (arith, s.some), go p f a (ours 0 (omega arith)))
     where
-      go : (p : Part) → found size 0 (g 0) ≡ IsPart p → p.number ≡ (scanned size g 480).number → Ours size most 0 (g 0) → (scanned size g 480).number ≤ most
+      go : (p : Part) → found size 0 (g 0) ≡ Ok (Some p) → p.number ≡ r.number → Ours size most 0 (g 0) → r.number ≤ most
       go p f a (inl b) = let z : ◌≡◌ {A = ℕ} 0 1 = cc in absurd (omega arith)
       go p f a (inr q) = let (p', f', l) = q in let same : p' ≡ p = cc in omega (arith, ap (λ (x : Part). x.number) same)
 
   pub number-low : number_in size g ≤ most
   number-low = go (scanned size g 480).whole refl
     where
-      go : (x : Bool) → (scanned size g 480).whole ≡ x → cond x (scanned size g 480).number 0 ≤ most
-      go true e = (is_some e).1
-      go false e = omega arith
+      go : (x : Option Record) → (scanned size g 480).whole ≡ x → unwrap_or (number_of x) 0 ≤ most
+      go (Some r) e = (is_some r e).1
+      go None e = omega arith
 
   pub no_writes : number_in size g ≡ 0 → writes_in size g ≡ []
   no_writes z = go (scanned size g 480).whole refl z
     where
-      go : (x : Bool) → (scanned size g 480).whole ≡ x → cond x (scanned size g 480).number 0 ≡ 0 → writes_in size g ≡ []
-      go true e q = absurd (omega (arith, (is_some e).0))
-      go false e q = none-writes size g e
+      go : (x : Option Record) → (scanned size g 480).whole ≡ x → unwrap_or (number_of x) 0 ≡ 0 → writes_in size g ≡ []
+      go (Some r) e q = absurd (omega (arith, (is_some r e).0))
+      go None e q = none-writes size g e
 
 -- the order of doing again
 pub redone-by : (size : ℕ) (g : Slot → ℕ → List ℕ) (older : Slot) → number_in size (g older) < number_in size (g (other older)) → redone_with size g ≡ writes_in size (g older) ++ writes_in size (g (other older))

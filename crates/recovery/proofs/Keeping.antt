@@ -1,21 +1,17 @@
 -- The journal keeps to the array, whatever happens: along every trace there is an array that is allowed to be seen so, and that the device and
 -- the memory hold.
-use Rattle.std.proofs.Common.{◌≡◌, ℕ, zero, suc, ◌+◌, ◌≤◌, Bool, true, false, cond, ◌&&◌, T, ltb, ◌⊎◌, List, ◌∷◌, ◌++◌, sym, refl, ap, ◌∙◌, subst, inl, inr, arith, ltb-false}
+use Rattle.std.proofs.Common.{◌≡◌, ℕ, zero, suc, ◌+◌, ◌≤◌, Bool, true, false, cond, ◌&&◌, T, ltb, ◌⊎◌, List, ◌∷◌, ◌++◌, sym, refl, ap, ◌∙◌, subst, inl, inr, arith, ltb-false, Ok, Err, None}
 use Rattle.disks.specs.Device.{Device, blank_device, zeros, answer, run, Ran, Upto, here, latest, AfterCut, Event, called, cut_in, cut_between, World, off, on, Trace, begin, opened, opening_cut, answered, call_cut, between_cut, Allowed, at_start, was_lost, was_done, came_between, came_opening, all_bytes, then'}
 use Rattle.compose.proofs.Compose.{run_then, upto_map}
 use Rattle.journal.specs.Format.{found}
 use Rattle.journal.specs.Scans.{scan_found, scanned}
-use Rattle.journal.specs.Programs.{in_area, allowed, open_io, get_io, put_io, Put', after_put}
+use Rattle.journal.specs.Programs.{in_area, allowed, open_io, get_io, put_io, Put', after_put, Opened, Got}
 use Rattle.recovery.specs.Machines.{Call, Get, Put, Reply, Done', No, got_reply, put_reply, whole_sectors, call_io, journal, Array, last, later, put_into, Answers, got, not_got, put, not_put, used-up, falls, array, JournalKeeps}
 use Rattle.journal.specs.declared.Place.{Place}
-use Rattle.journal.specs.declared.part.Found.TheVariants.{Blank}
 use Rattle.journal.specs.declared.state.Write.{Write}
 use Rattle.journal.specs.declared.state.Slot.{Slot}
 use Rattle.journal.specs.declared.state.Slot.TheVariants.{First, Second}
 use Rattle.journal.specs.declared.state.Journal.{Journal}
-use Rattle.journal.specs.declared.state.Opened.{Opened}
-use Rattle.journal.specs.declared.state.Opened.TheVariants.{Ready, Foreign}
-use Rattle.journal.specs.declared.state.Got.{Got}
 use Rattle.recovery.proofs.Sound.{found_blank}
 use Rattle.recovery.proofs.Mixing.{writes_in, none_number, none-writes}
 use Rattle.recovery.proofs.Redoing.{slot_of}
@@ -29,12 +25,12 @@ both true y h k = k
 both false y h k = h
 
 -- a blank slot has nothing to do again
-blank-scan : (size : ℕ) (g : ℕ → List ℕ) (k : ℕ) → ((i : ℕ) → found size i (g i) ≡ Blank) → (scanned size g k).whole ≡ false
+blank-scan : (size : ℕ) (g : ℕ → List ℕ) (k : ℕ) → ((i : ℕ) → found size i (g i) ≡ Ok None) → (scanned size g k).whole ≡ None
 unfolding scanned scan_found
 blank-scan size g zero e = refl
 blank-scan size g (suc k) e = rw (e k, blank-scan size g k e)
 
-blank_found : (size : ℕ) (slot : Slot) (i : ℕ) → found size i (slot_of blank_device slot i) ≡ Blank
+blank_found : (size : ℕ) (slot : Slot) (i : ℕ) → found size i (slot_of blank_device slot i) ≡ Ok None
 unfolding latest
 blank_found size slot i = found_blank size i
 
@@ -56,8 +52,8 @@ on_more size n m a j d l o =
 module _ (size : ℕ) (fits : size ≤ 1099511627776) where
   abbrev pub Inv : World journal → Array → Type 0
   Inv (off d) a = Off size a.steps a.sector d
-  Inv (on (Ready j) d) a = On size a.steps a.sector j d
-  Inv (on Foreign d) a = ⊥
+  Inv (on (Ok j) d) a = On size a.steps a.sector j d
+  Inv (on (Err e) d) a = ⊥
 
   abbrev Step : Type 0
   Step = record { reply : Reply; mem : Opened }
@@ -70,23 +66,23 @@ module _ (size : ℕ) (fits : size ≤ 1099511627776) where
     on_later : On size (suc a.steps) a.sector j d
     on_later = on_more size a.steps (suc a.steps) a.sector j d (omega arith) o
 
-    get-stepped : (p : Place) (b : Bool) → in_area size p.0 ≡ b → Stepped (Get p) a (run (call_io (Get p) (Ready j)) d)
+    get-stepped : (p : Place) (b : Bool) → in_area size p.0 ≡ b → Stepped (Get p) a (run (call_io (Get p) (Ok j)) d)
     unfolding call_io run
     get-stepped p true e =
         let t : T (in_area size p.0) = subst T (sym e) tt in
-        subst (Stepped (Get p) a) (sym (run_then (get_io j p) (λ g. answer (record { reply = got_reply g; mem = Ready j })) d ∙ ap (λ (r : Ran Got). record { value = record { reply = got_reply r.value; mem = Ready j }; device = r.device }) (get_run size a.steps a.sector j d o p t))) (later a, got p a t, on_later)
+        subst (Stepped (Get p) a) (sym (run_then (get_io j p) (λ g. answer (record { reply = got_reply g; mem = Ok j })) d ∙ ap (λ (r : Ran Got). record { value = record { reply = got_reply r.value; mem = Ok j }; device = r.device }) (get_run size a.steps a.sector j d o p t))) (later a, got p a t, on_later)
     get-stepped p false e =
-        subst (Stepped (Get p) a) (sym (run_then (get_io j p) (λ g. answer (record { reply = got_reply g; mem = Ready j })) d ∙ ap (λ (r : Ran Got). record { value = record { reply = got_reply r.value; mem = Ready j }; device = r.device }) (get_refused size a.steps a.sector j d o p e))) (later a, not_got p a e, on_later)
+        subst (Stepped (Get p) a) (sym (run_then (get_io j p) (λ g. answer (record { reply = got_reply g; mem = Ok j })) d ∙ ap (λ (r : Ran Got). record { value = record { reply = got_reply r.value; mem = Ok j }; device = r.device }) (get_refused size a.steps a.sector j d o p e))) (later a, not_got p a e, on_later)
 
     abbrev told : Ran Put' → Ran Step
-    told z = record { value = record { reply = put_reply z.value.outcome; mem = Ready z.value.journal }; device = z.device }
+    told z = record { value = record { reply = put_reply z.value.outcome; mem = Ok z.value.journal }; device = z.device }
 
-    put-told : (ws : List Write) → run (then' {B = Step} (put_io j ws) (λ x. answer (record { reply = put_reply x.outcome; mem = Ready x.journal }))) d ≡ told (run (put_io j ws) d)
+    put-told : (ws : List Write) → run (then' {B = Step} (put_io j ws) (λ x. answer (record { reply = put_reply x.outcome; mem = Ok x.journal }))) d ≡ told (run (put_io j ws) d)
     unfolding run
-    put-told ws = run_then (put_io j ws) (λ x. answer (record { reply = put_reply x.outcome; mem = Ready x.journal })) d
+    put-told ws = run_then (put_io j ws) (λ x. answer (record { reply = put_reply x.outcome; mem = Ok x.journal })) d
 
     -- a put, by what the tests say: whole sectors, allowed, a number left
-    put-stepped : (ws : List Write) (u v w : Bool) → whole_sectors ws ≡ u → allowed size ws ≡ v → ltb j.next 4611686018427387904 ≡ w → Stepped (Put ws) a (run (call_io (Put ws) (Ready j)) d)
+    put-stepped : (ws : List Write) (u v w : Bool) → whole_sectors ws ≡ u → allowed size ws ≡ v → ltb j.next 4611686018427387904 ≡ w → Stepped (Put ws) a (run (call_io (Put ws) (Ok j)) d)
     unfolding call_io run
     put-stepped ws false v w p q r = rw p (later a, not_put ws a (rw p), on_later)
     put-stepped ws true false w p q r =
@@ -104,7 +100,7 @@ module _ (size : ℕ) (fits : size ≤ 1099511627776) where
         let run_is = put-told ws ∙ ap told (put_run size a.steps a.sector j d o fits ws s t r) in
         rw p (subst (Stepped (Put ws) a) (sym run_is) (put_into ws a, put ws a (both (whole_sectors ws) (allowed size ws) s t), on_more size (a.steps + 1) (suc a.steps) (λ z. last ws (a.sector z) z) (after_put j) _ (omega arith) (put-after size a.steps a.sector j d o fits ws s t r)))
 
-    stepped : (c : Call) → Stepped c a (run (call_io c (Ready j)) d)
+    stepped : (c : Call) → Stepped c a (run (call_io c (Ok j)) d)
     stepped (Get p) = get-stepped p (in_area size p.0) refl
     stepped (Put ws) = put-stepped ws (whole_sectors ws) (allowed size ws) (ltb j.next 4611686018427387904) refl refl refl
 
@@ -115,11 +111,11 @@ module _ (size : ℕ) (fits : size ≤ 1099511627776) where
     rests : (c : Call) (e f : Device) → e ≡ d → AfterCut e f → Lost c f
     rests c e f q cut = inl (rest-cut size a.steps (suc a.steps) a.sector j d f (omega arith) o.safe (subst (λ (z : Device). AfterCut z f) q cut))
 
-    put-lost : (ws : List Write) (e f : Device) → (u v w : Bool) → whole_sectors ws ≡ u → allowed size ws ≡ v → ltb j.next 4611686018427387904 ≡ w → Upto (call_io (Put ws) (Ready j)) d e → AfterCut e f → Lost (Put ws) f
+    put-lost : (ws : List Write) (e f : Device) → (u v w : Bool) → whole_sectors ws ≡ u → allowed size ws ≡ v → ltb j.next 4611686018427387904 ≡ w → Upto (call_io (Put ws) (Ok j)) d e → AfterCut e f → Lost (Put ws) f
     unfolding call_io
-    put-lost ws e f false v w p q r up cut = rests (Put ws) e f (at_once e (subst (λ (b : Bool). Upto {A = Step} (cond b (then' (put_io j ws) (λ x. answer (record { reply = put_reply x.outcome; mem = Ready x.journal }))) (answer (record { reply = No 1; mem = Ready j }))) d e) p up)) cut
+    put-lost ws e f false v w p q r up cut = rests (Put ws) e f (at_once e (subst (λ (b : Bool). Upto {A = Step} (cond b (then' (put_io j ws) (λ x. answer (record { reply = put_reply x.outcome; mem = Ok x.journal }))) (answer (record { reply = No 1; mem = Ok j }))) d e) p up)) cut
       where
-        at_once : (e : Device) → Upto {A = Step} (answer (record { reply = No 1; mem = Ready j })) d e → e ≡ d
+        at_once : (e : Device) → Upto {A = Step} (answer (record { reply = No 1; mem = Ok j })) d e → e ≡ d
         at_once e here = refl
     put-lost ws e f true v w p q r up cut = go v w q r
       where
@@ -127,7 +123,7 @@ module _ (size : ℕ) (fits : size ≤ 1099511627776) where
         s = subst T (sym p) tt
 
         inner : Upto (put_io j ws) d e
-        inner = upto_map (put_io j ws) (λ x. record { reply = put_reply x.outcome; mem = Ready x.journal }) d e (subst (λ (b : Bool). Upto {A = Step} (cond b (then' (put_io j ws) (λ x. answer (record { reply = put_reply x.outcome; mem = Ready x.journal }))) (answer (record { reply = No 1; mem = Ready j }))) d e) p up)
+        inner = upto_map (put_io j ws) (λ x. record { reply = put_reply x.outcome; mem = Ok x.journal }) d e (subst (λ (b : Bool). Upto {A = Step} (cond b (then' (put_io j ws) (λ x. answer (record { reply = put_reply x.outcome; mem = Ok x.journal }))) (answer (record { reply = No 1; mem = Ok j }))) d e) p up)
 
         go : (v w : Bool) → allowed size ws ≡ v → ltb j.next 4611686018427387904 ≡ w → Lost (Put ws) f
         go false w q r = rests (Put ws) e f (put-still size a.steps a.sector j d o fits ws s (λ t. subst (λ (b : Bool). T (b && ltb j.next 4611686018427387904)) q t) e inner) cut
@@ -139,16 +135,16 @@ module _ (size : ℕ) (fits : size ≤ 1099511627776) where
               | inr x ↦ inr (Done', put_into ws a, put ws a (both (whole_sectors ws) (allowed size ws) s t), off_more size (a.steps + 1) (suc (suc a.steps)) (λ z. last ws (a.sector z) z) f (omega arith) x)
             ]
 
-    lost : (c : Call) (e f : Device) → Upto (call_io c (Ready j)) d e → AfterCut e f → Lost c f
+    lost : (c : Call) (e f : Device) → Upto (call_io c (Ok j)) d e → AfterCut e f → Lost c f
     unfolding call_io
-    lost (Get p) e f up cut = rests (Get p) e f (get_upto size a.steps a.sector j d o p e (upto_map (get_io j p) (λ g. record { reply = got_reply g; mem = Ready j }) d e up)) cut
+    lost (Get p) e f up cut = rests (Get p) e f (get_upto size a.steps a.sector j d o p e (upto_map (get_io j p) (λ g. record { reply = got_reply g; mem = Ok j }) d e up)) cut
     lost (Put ws) e f up cut = put-lost ws e f (whole_sectors ws) (allowed size ws) (ltb j.next 4611686018427387904) refl refl refl up cut
 
   -- ALONG A TRACE
   abbrev pub Held : List (Event Call Reply) → World journal → Type 0
   Held es w = (a : Array) × Allowed (array size) es a × Inv w a
 
-  came_up : (es : List (Event Call Reply)) (d : Device) (x : Opened) (e : Device) (a : Array) → Allowed (array size) es a → (j : Journal) × (x ≡ Ready j) × On size a.steps a.sector j e → Held es (on x e)
+  came_up : (es : List (Event Call Reply)) (d : Device) (x : Opened) (e : Device) (a : Array) → Allowed (array size) es a → (j : Journal) × (x ≡ Ok j) × On size a.steps a.sector j e → Held es (on x e)
   came_up es d x e a al (j, q, o) = subst (λ (y : Opened). (b : Array) × Allowed (array size) es b × Inv (on y e) b) (sym q) (a, al, o)
 
   pub held : {es : List (Event Call Reply)} {w : World journal} → Trace journal size es w → Held es w
@@ -158,8 +154,8 @@ module _ (size : ℕ) (fits : size ≤ 1099511627776) where
   held (answered {es} {m} {d} c tr) = called_on m (held tr)
     where
       called_on : (m : Opened) → (a : Array) × Allowed (array size) es a × Inv (on m d) a → (b : Array) × Allowed (array size) (called c (run (call_io c m) d).value.reply ∷ es) b × Inv (on (run (call_io c m) d).value.mem (run (call_io c m) d).device) b
-      called_on (Ready j) (a, al, o) = let (b, an, i) = stepped a j d o c in (b, Allowed.answers al an, i)
-      called_on Foreign (a, al, o) = absurd o
+      called_on (Ok j) (a, al, o) = let (b, an, i) = stepped a j d o c in (b, Allowed.answers al an, i)
+      called_on (Err e) (a, al, o) = absurd o
   held (call_cut {es} {m} {d} {f} {g} c tr up cut) = cut_on m (held tr) up
     where
       gone : (a : Array) → Allowed (array size) es a → Off size (suc a.steps) a.sector g ⊎ ((r : Reply) × (b : Array) × Answers size c a r b × Off size (suc b.steps) b.sector g) → (b : Array) × Allowed (array size) (cut_in c ∷ es) b × Off size b.steps b.sector g
@@ -167,13 +163,13 @@ module _ (size : ℕ) (fits : size ≤ 1099511627776) where
       gone a al (inr (r, b, an, o)) = (later b, was_done al an (falls b), o)
 
       cut_on : (m : Opened) → (a : Array) × Allowed (array size) es a × Inv (on m d) a → Upto (call_io c m) d f → (b : Array) × Allowed (array size) (cut_in c ∷ es) b × Off size b.steps b.sector g
-      cut_on (Ready j) (a, al, o) up = gone a al (lost a j d o c f g up cut)
-      cut_on Foreign (a, al, o) up = absurd o
+      cut_on (Ok j) (a, al, o) up = gone a al (lost a j d o c f g up cut)
+      cut_on (Err e) (a, al, o) up = absurd o
   held (between_cut {es} {m} {d} {g} tr cut) = cut_on m (held tr)
     where
       cut_on : (m : Opened) → (a : Array) × Allowed (array size) es a × Inv (on m d) a → (b : Array) × Allowed (array size) (cut_between ∷ es) b × Off size b.steps b.sector g
-      cut_on (Ready j) (a, al, o) = (later a, came_between al (falls a), rest-cut size a.steps (suc a.steps) a.sector j d g (omega arith) o.safe cut)
-      cut_on Foreign (a, al, o) = absurd o
+      cut_on (Ok j) (a, al, o) = (later a, came_between al (falls a), rest-cut size a.steps (suc a.steps) a.sector j d g (omega arith) o.safe cut)
+      cut_on (Err e) (a, al, o) = absurd o
 
 pub journal-keeps : JournalKeeps
 journal-keeps size lo hi es w tr = let (a, al, i) = held size hi tr in (a, al)

@@ -1,44 +1,42 @@
 -- A slot into which a record was being written when the power failed: it has the new record whole, or the old one, or none. Each sector
 -- is as it was or as the new record has it; numbers are never used again, so sectors of two records are told apart.
-use Rattle.std.proofs.Common.{◌≡◌, ℕ, ◌*◌, ◌/◌, ◌<◌, ◌≤◌, Bool, true, false, T, eqb, ◌≢◌, ◌⊎◌, List, [], length, sym, refl, ap, ◌∙◌, subst, inl, inr, arith, eqb-true, le-leb}
+use Rattle.std.proofs.Common.{◌≡◌, ℕ, ◌*◌, ◌/◌, ◌<◌, ◌≤◌, Bool, true, false, T, eqb, ◌≢◌, ◌⊎◌, List, [], length, sym, refl, ap, ◌∙◌, subst, inl, inr, arith, eqb-true, le-leb, Ok, Some, None, Option}
 use borrow.Author.Tests.{eqb-false}
 use Rattle.journal.specs.Format.{found}
-use Rattle.journal.specs.Scans.{scanned, redo_number, redo_count, writes_from}
+use Rattle.journal.specs.Scans.{scanned, number_or_none, redo_count, writes_from}
 use Rattle.journal.specs.Programs.{record_sector, all_in_area}
 use Rattle.recovery.specs.Machines.{whole_sectors}
 use Rattle.journal.specs.declared.part.Part.{Part}
-use Rattle.journal.specs.declared.part.Found.TheVariants.{Part as IsPart}
+use Rattle.journal.specs.declared.scan.Record.{Record}
 use Rattle.journal.specs.declared.state.Write.{Write}
 use Rattle.recovery.proofs.Records.{part, sector_found, writes_back, writes_cong}
 use Rattle.recovery.proofs.Scanning.{Ours, Has, Whole, found_whole, whole_found}
 
 -- the number and the writes of the record that a slot would have done again
 abbrev pub number_in : ℕ → (ℕ → List ℕ) → ℕ
-number_in size g = redo_number (scanned size g 480)
+number_in size g = number_or_none (scanned size g 480)
 
 abbrev pub writes_in : ℕ → (ℕ → List ℕ) → List Write
 writes_in size g = writes_from g 0 (redo_count (scanned size g 480))
 
 -- of a record that is all there
 pub whole-number : (size : ℕ) (g : ℕ → List ℕ) (n len : ℕ) → Whole size g n len → number_in size g ≡ n
-whole-number size g n len w = let h = found_whole size g n len w 479 in rw h.whole h.number
+whole-number size g n len w = rw (found_whole size g n len w 479)
 
 pub whole-count : (size : ℕ) (g : ℕ → List ℕ) (n len : ℕ) → Whole size g n len → redo_count (scanned size g 480) ≡ len / 2
 whole-count size g n len w =
-    let h = found_whole size g n len w 479 in
-    let l : (scanned size g 480).length ≤ 480 = omega (arith, h.length, w.short) in
-    rw (h.whole, le-leb (scanned size g 480).length 480 l) (ap (λ (x : ℕ). x / 2) h.length)
+    rw (found_whole size g n len w 479, le-leb len 480 w.short)
 
 -- of a slot with none
-pub none_number : (size : ℕ) (g : ℕ → List ℕ) → (scanned size g 480).whole ≡ false → number_in size g ≡ 0
+pub none_number : (size : ℕ) (g : ℕ → List ℕ) → (scanned size g 480).whole ≡ None → number_in size g ≡ 0
 none_number size g e = rw e
 
-pub none-writes : (size : ℕ) (g : ℕ → List ℕ) → (scanned size g 480).whole ≡ false → writes_in size g ≡ []
+pub none-writes : (size : ℕ) (g : ℕ → List ℕ) → (scanned size g 480).whole ≡ None → writes_in size g ≡ []
 unfolding writes_from
 none-writes size g e = rw e
 
 module _ (size n : ℕ) (ws : List Write) (some : 1 ≤ n) (below : n < 4611686018427387904) (one : 1 ≤ length ws) (few : length ws ≤ 240) (area : T (all_in_area size ws)) (sectors : T (whole_sectors ws)) (fits : size ≤ 1099511627776) where
-  is_found : (j : ℕ) → j < 2 * length ws → found size j (record_sector n ws j) ≡ IsPart (part size n ws some below few area sectors fits j)
+  is_found : (j : ℕ) → j < 2 * length ws → found size j (record_sector n ws j) ≡ Ok (Some (part size n ws some below few area sectors fits j))
   is_found = sector_found size n ws some below few area sectors fits
 
   -- the record is there
@@ -82,22 +80,22 @@ module _ (size n : ℕ) (ws : List Write) (some : 1 ≤ n) (below : n < 46116860
     pub outcome : Outcome
     outcome = go (scanned size h 480).whole refl
       where
-        is_whole : (scanned size h 480).whole ≡ true → (x : Bool) → eqb (scanned size h 480).number n ≡ x → Outcome
-        is_whole e true q =
-            let w = whole_found size h n mixed-ours e in
-            let same = eqb-true (scanned size h 480).number n q in
-            let first = (carries (scanned size h 480).number (scanned size h 480).length 0 (omega arith) (w.each 0 w.some)).0 same in
-            let t = there h (λ i l. ((carries (scanned size h 480).number (scanned size h 480).length i (omega arith) (w.each i (omega (arith, first.2)))).0 same).1) in
+        is_whole : (r : Record) → (scanned size h 480).whole ≡ Some r → (x : Bool) → eqb r.number n ≡ x → Outcome
+        is_whole r e true q =
+            let w = whole_found size h n mixed-ours r e in
+            let same = eqb-true r.number n q in
+            let first = (carries r.number r.length 0 (omega arith) (w.each 0 w.some)).0 same in
+            let t = there h (λ i l. ((carries r.number r.length i (omega arith) (w.each i (omega (arith, first.2)))).0 same).1) in
             new t.0 t.1
-        is_whole e false q =
-            let w = whole_found size h n mixed-ours e in
-            let m = (scanned size h 480).number in
-            let len = (scanned size h 480).length in
+        is_whole r e false q =
+            let w = whole_found size h n mixed-ours r e in
+            let m = r.number in
+            let len = r.length in
             let back = λ (i : ℕ) (l : i < len). (carries m len i (omega (arith, w.short)) (w.each i l)).1 (eqb-false m n q) in
-            let was : Whole size g m len = record { some = w.some; short = w.short; each = λ i l. subst (λ (b : List ℕ). (p : Part) × (found size i b ≡ IsPart p) × (p.number ≡ m) × (p.length ≡ len)) (back i l) (w.each i l) } in
+            let was : Whole size g m len = record { some = w.some; short = w.short; each = λ i l. subst (λ (b : List ℕ). (p : Part) × (found size i b ≡ Ok (Some p)) × (p.number ≡ m) × (p.length ≡ len)) (back i l) (w.each i l) } in
             as_before (whole-number size h m len w ∙ sym (whole-number size g m len was))
             (ap (writes_from h 0) (whole-count size h m len w) ∙ writes_cong h g 0 (len / 2) (λ i l. back i (omega arith)) ∙ ap (writes_from g 0) (sym (whole-count size g m len was)))
 
-        go : (x : Bool) → (scanned size h 480).whole ≡ x → Outcome
-        go true e = is_whole e (eqb (scanned size h 480).number n) refl
-        go false e = none (none_number size h e) (none-writes size h e)
+        go : (x : Option Record) → (scanned size h 480).whole ≡ x → Outcome
+        go (Some r) e = is_whole r e (eqb r.number n) refl
+        go None e = none (none_number size h e) (none-writes size h e)

@@ -1,22 +1,19 @@
 -- Opening: from a device with the power off it leaves the journal on, with the same array; cut anywhere, it leaves a device from which it can
 -- be opened again, with the same array.
-use Rattle.std.proofs.Common.{◌≡◌, ℕ, ◌+◌, ◌<◌, ◌≤◌, Bool, true, false, ◌&&◌, ◌||◌, T, eqb, ltb, ◌⊎◌, List, [], ◌∷◌, ◌++◌, sym, refl, ap, ◌∙◌, subst, inl, inr, arith, ltb-false, ltb-true, lt-ltb, eqb-true}
+use Rattle.std.proofs.Common.{◌≡◌, ℕ, ◌+◌, ◌<◌, ◌≤◌, Bool, true, false, ◌&&◌, ◌||◌, T, eqb, ltb, ◌⊎◌, List, [], ◌∷◌, ◌++◌, sym, refl, ap, ◌∙◌, subst, inl, inr, arith, ltb-false, ltb-true, lt-ltb, eqb-true, Ok, Some}
 use borrow.Author.Tests.{eqb-false}
 use Rattle.disks.specs.Device.{Device, Io, answer, run, Ran, Upto, here, shown, latest, synced, then', AfterCut}
 use Rattle.compose.proofs.Compose.{run_then, upto_then, upto_map}
 use Rattle.journal.specs.Scans.{scan_start, scanned, higher}
-use Rattle.journal.specs.Programs.{base, other, in_area, named, write_all_io, scan_io, redo_io, recover_io, open_io, ready}
+use Rattle.journal.specs.Programs.{base, other, in_area, named, write_all_io, scan_io, redo_io, recover_io, open_io, ready, Opened}
 use Rattle.recovery.specs.Machines.{last}
 use Rattle.journal.specs.Format.{found}
 use Rattle.journal.specs.declared.part.Part.{Part}
-use Rattle.journal.specs.declared.part.Found.TheVariants.{Part as IsPart}
 use Rattle.journal.specs.declared.scan.Scan.{Scan}
 use Rattle.journal.specs.declared.state.Write.{Write}
 use Rattle.journal.specs.declared.state.Slot.{Slot}
 use Rattle.journal.specs.declared.state.Slot.TheVariants.{First, Second}
 use Rattle.journal.specs.declared.state.Journal.{Journal}
-use Rattle.journal.specs.declared.state.Opened.{Opened}
-use Rattle.journal.specs.declared.state.Opened.TheVariants.{Ready}
 use Rattle.recovery.proofs.Lasts.{last-append, last-again, last_same, below-area}
 use Rattle.recovery.proofs.Writing.{alike_shown, upto_other, all_upto, all_shown}
 use Rattle.recovery.proofs.Sound.{found_is}
@@ -130,7 +127,7 @@ module _ (size n : ℕ) (array : ℕ → List ℕ) (d : Device) (off : Off size 
             let was : array s ≡ last (writes_in size (slot_of d (other o))) (last (writes_in size (slot_of d o)) (shown d s) s) s = sym (value s t) ∙ last-append (writes_in size (slot_of d o)) (writes_in size (slot_of d (other o))) (shown d s) s in
             ap (λ (q : List ℕ). last (writes_in size (slot_of d (other o))) q s) was ∙ last-again (writes_in size (slot_of d (other o))) (last (writes_in size (slot_of d o)) (shown d s) s) s ∙ sym was
 
-        raised : (slot : Slot) (top k : ℕ) → k < 480 → top ≤ higher a.highest b.highest → ((p : Part) → k < 480 → found size k (slot_of d slot k) ≡ IsPart p → p.number ≤ top) → Ours size n k (slot_of d slot k) → Ours size (higher a.highest b.highest) k (slot_of d slot k)
+        raised : (slot : Slot) (top k : ℕ) → k < 480 → top ≤ higher a.highest b.highest → ((p : Part) → k < 480 → found size k (slot_of d slot k) ≡ Ok (Some p) → p.number ≤ top) → Ours size n k (slot_of d slot k) → Ours size (higher a.highest b.highest) k (slot_of d slot k)
         raised slot top k m h up (inl e) = inl e
         raised slot top k m h up (inr q) = let (p, e, l) = q in inr (p, e, omega (arith, up p m e))
 
@@ -160,14 +157,14 @@ module _ (size n : ℕ) (array : ℕ → List ℕ) (d : Device) (off : Off size 
 
   -- what follows the scans
   abbrev rest : Slot → Io Opened
-  rest o = then' (redo_io o (scan o) (scan (other o))) (λ _. answer (Ready (ready size o (scan o) (scan (other o)))))
+  rest o = then' (redo_io o (scan o) (scan (other o))) (λ _. answer (Ok (ready size o (scan o) (scan (other o)))))
 
   pub recover_is : (o : Slot) → Older o → recover_io size (scan First) (scan Second) ≡ rest o
   unfolding recover_io
   recover_is Second (second e) = rw (is_ours, e)
   recover_is First (first e) = rw (is_ours, e)
 
-  pub open_run : (o : Slot) → Older o → run (open_io size) d ≡ record { value = Ready (ready size o (scan o) (scan (other o))); device = synced (all_done size n d off.ours o) }
+  pub open_run : (o : Slot) → Older o → run (open_io size) d ≡ record { value = Ok (ready size o (scan o) (scan (other o))); device = synced (all_done size n d off.ours o) }
   unfolding open_io run
   open_run o x =
       run_then (scan_io size First) (λ a. then' (scan_io size Second) (λ b. recover_io size a b)) d
@@ -175,8 +172,8 @@ module _ (size n : ℕ) (array : ℕ → List ℕ) (d : Device) (off : Off size 
       ∙ run_then (scan_io size Second) (λ b. recover_io size (scan First) b) d
       ∙ ap (λ (r : Ran Scan). run (recover_io size (scan First) r.value) r.device) (scan_is Second)
       ∙ ap (λ (p : Io Opened). run p d) (recover_is o x)
-      ∙ run_then (redo_io o (scan o) (scan (other o))) (λ _. answer (Ready (ready size o (scan o) (scan (other o))))) d
-      ∙ ap (λ (r : Ran (Unit {0})). record { value = Ready (ready size o (scan o) (scan (other o))); device = r.device }) (redo_run size n d off.ours o)
+      ∙ run_then (redo_io o (scan o) (scan (other o))) (λ _. answer (Ok (ready size o (scan o) (scan (other o))))) d
+      ∙ ap (λ (r : Ran (Unit {0})). record { value = Ok (ready size o (scan o) (scan (other o))); device = r.device }) (redo_run size n d off.ours o)
 
   -- where it may be cut: nothing is written, or some of what is done again, or all of it and synced
   pub open_upto : (o : Slot) → Older o → (e : Device) → Upto (open_io size) d e → Upto (write_all_io (redone size n d off.ours o)) d e ⊎ (e ≡ synced (all_done size n d off.ours o))
@@ -191,7 +188,7 @@ module _ (size n : ℕ) (array : ℕ → List ℕ) (d : Device) (off : Off size 
       still q = inl (subst (λ (y : Device). Upto (write_all_io (redone size n d off.ours o)) d y) (sym q) here)
 
       then_rest : Upto (rest o) d e → Upto (write_all_io (redone size n d off.ours o)) d e ⊎ (e ≡ synced (all_done size n d off.ours o))
-      then_rest v = redo_upto size n d off.ours o e (upto_map (redo_io o (scan o) (scan (other o))) (λ _. Ready (ready size o (scan o) (scan (other o)))) d e v)
+      then_rest v = redo_upto size n d off.ours o e (upto_map (redo_io o (scan o) (scan (other o))) (λ _. Ok (ready size o (scan o) (scan (other o)))) d e v)
 
       second-scan : Upto (then' (scan_io size Second) (λ b. recover_io size (scan First) b)) d e → Upto (write_all_io (redone size n d off.ours o)) d e ⊎ (e ≡ synced (all_done size n d off.ours o))
       second-scan v =
@@ -208,7 +205,7 @@ module _ (size n : ℕ) (array : ℕ → List ℕ) (d : Device) (off : Off size 
       go false e = (First, first e)
 
   -- OPENED, and cut
-  pub opens : (j : Journal) × ((run (open_io size) d).value ≡ Ready j) × On size n array j (run (open_io size) d).device
+  pub opens : (j : Journal) × ((run (open_io size) d).value ≡ Ok j) × On size n array j (run (open_io size) d).device
   opens =
       let (o, x) = which in
       let y = in_order o x in

@@ -1,5 +1,5 @@
 -- A record in a slot: each of its sectors is found as its part, and read back it is the writes that it was made of.
-use Rattle.std.proofs.Common.{◌≡◌, ℕ, zero, suc, ◌+◌, ◌*◌, ◌/◌, ◌%◌, ◌<◌, ◌≤◌, Bool, true, false, cond, ◌&&◌, T, eqb, ltb, leb, ◌≢◌, ◌⊎◌, List, [], ◌∷◌, ◌++◌, length, get_or, take, drop, sym, refl, ap, ◌∙◌, inl, inr, add-one, arith, length-drop, take-append-drop, length-take, drop-cons, ltb-true, ne_eqb, eqb-true, leb-true}
+use Rattle.std.proofs.Common.{◌≡◌, ℕ, zero, suc, ◌+◌, ◌*◌, ◌/◌, ◌%◌, ◌<◌, ◌≤◌, Bool, true, false, cond, ◌&&◌, T, eqb, ltb, leb, ◌≢◌, ◌⊎◌, List, [], ◌∷◌, ◌++◌, length, get_or, take, drop, sym, refl, ap, ◌∙◌, inl, inr, add-one, arith, length-drop, take-append-drop, length-take, drop-cons, ltb-true, ne_eqb, eqb-true, leb-true, Ok, Some}
 use borrow.Author.Tests.{eqb-false}
 use Rattle.std.proofs.lemmas.List.{drop_all}
 use Rattle.disks.specs.Device.{all_bytes}
@@ -8,7 +8,6 @@ use Rattle.journal.specs.Scans.{write_at, writes_from}
 use Rattle.journal.specs.Programs.{no_write, half_at, record_sector, record_from, named, all_in_area}
 use Rattle.recovery.specs.Machines.{whole_sectors, last}
 use Rattle.journal.specs.declared.part.Part.{Part}
-use Rattle.journal.specs.declared.part.Found.TheVariants.{Part as IsPart}
 use Rattle.journal.specs.declared.state.Write.{Write}
 use Rattle.octets.proofs.Fields.{bytes_take, bytes_drop}
 use Rattle.recovery.proofs.Sound.{Sound, part_back, found_part, half_back, length_part, bytes-part}
@@ -92,7 +91,7 @@ module _ (size n : ℕ) (ws : List Write) (some : 1 ≤ n) (below : n < 46116860
       go zero k bs e = length-take 256 bs ∙ omega arith
       go (suc h) k bs e = length-drop 256 bs ∙ omega arith
 
-  pub sector_found : (j : ℕ) → j < 2 * length ws → found size j (record_sector n ws j) ≡ IsPart (part j)
+  pub sector_found : (j : ℕ) → j < 2 * length ws → found size j (record_sector n ws j) ≡ Ok (Some (part j))
   unfolding record_sector
   sector_found j l = found_part size j (part j) (half_at (j % 2) (get_or ws (j / 2) no_write).bytes) (part_sound j l) fits
 

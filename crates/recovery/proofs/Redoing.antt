@@ -1,11 +1,12 @@
 -- Opening: scans only read, and doing a record again writes its sectors in place, as the record's writes would.
-use Rattle.std.proofs.Common.{◌≡◌, ℕ, zero, suc, ◌+◌, ◌*◌, ◌/◌, ◌<◌, ◌≤◌, Bool, true, false, cond, ◌&&◌, T, ltb, leb, ◌≢◌, ◌⊎◌, List, [], ◌∷◌, ◌++◌, sym, refl, ap, ◌∙◌, subst, inl, inr, add-zero, add-one, arith, le→leb, lt→ltb, ne_eqb, leb-true}
+use Rattle.std.proofs.Common.{◌≡◌, ℕ, zero, suc, ◌+◌, ◌*◌, ◌/◌, ◌<◌, ◌≤◌, Bool, true, false, cond, ◌&&◌, T, ltb, leb, ◌≢◌, ◌⊎◌, List, [], ◌∷◌, ◌++◌, sym, refl, ap, ◌∙◌, subst, inl, inr, add-zero, add-one, arith, le→leb, lt→ltb, ne_eqb, leb-true, Ok, Some, None, Option}
 use Rattle.disks.specs.Device.{Device, Io, answer, sync, run, Ran, Upto, here, reads, writes, syncs, shown, written, synced, then'}
 use Rattle.compose.proofs.Compose.{run_then, upto_then}
 use Rattle.journal.specs.Format.{part_of, half_of}
-use Rattle.journal.specs.Scans.{scan_next, scanned, redo_count, write_at, writes_from}
+use Rattle.journal.specs.Scans.{scan_next, scanned, count_of, redo_count, write_at, writes_from}
 use Rattle.journal.specs.Programs.{base, other, write_all_io, all_in_area, scan_from, replay_from, redo_io}
 use Rattle.journal.specs.declared.part.Part.{Part}
+use Rattle.journal.specs.declared.scan.Record.{Record}
 use Rattle.journal.specs.declared.scan.Scan.{Scan}
 use Rattle.journal.specs.declared.state.Write.{Write}
 use Rattle.journal.specs.declared.state.Slot.{Slot}
@@ -116,24 +117,24 @@ found_in_area size most g ours = go (scanned size g 480).whole refl
     nothing : T (all_in_area size [])
     nothing = tt
 
-    go : (x : Bool) → (scanned size g 480).whole ≡ x → T (all_in_area size (writes_in size g))
-    go true e =
-        let n = (scanned size g 480).number in
-        let len = (scanned size g 480).length in
-        let w = whole_found size g most ours e in
+    go : (x : Option Record) → (scanned size g 480).whole ≡ x → T (all_in_area size (writes_in size g))
+    go (Some r) e =
+        let n = r.number in
+        let len = r.length in
+        let w = whole_found size g most ours r e in
         subst (λ (k : ℕ). T (all_in_area size (writes_from g 0 k))) (sym (whole-count size g n len w)) (in_area_lem size g n len 0 (len / 2) w (omega arith))
-    go false e = subst (λ (ws : List Write). T (all_in_area size ws)) (sym (none-writes size g e)) nothing
+    go None e = subst (λ (ws : List Write). T (all_in_area size ws)) (sym (none-writes size g e)) nothing
 
 pub redo_few : (s : Scan) → redo_count s ≤ 240
-redo_few s = go (s.whole && leb s.length 480) refl
+redo_few s = go s.whole
   where
-    and : (a b : Bool) → a && b ≡ true → b ≡ true
-    and true b h = h
-    and false b h = absurd (subst T (sym h) tt)
+    fits : (len : ℕ) (x : Bool) → leb len 480 ≡ x → cond x (len / 2) 0 ≤ 240
+    fits len true e = omega (arith, leb-true len 480 e)
+    fits len false e = omega arith
 
-    go : (x : Bool) → s.whole && leb s.length 480 ≡ x → cond x (s.length / 2) 0 ≤ 240
-    go true e = omega (arith, leb-true s.length 480 (and s.whole (leb s.length 480) e))
-    go false e = omega arith
+    go : (o : Option Record) → count_of o ≤ 240
+    go None = omega arith
+    go (Some r) = fits r.length (leb r.length 480) refl
 
 -- both slots' contents
 abbrev pub slot_of : Device → Slot → ℕ → List ℕ

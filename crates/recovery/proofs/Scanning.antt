@@ -1,21 +1,21 @@
 -- What a scan of a slot comes to: it finds a record exactly where each of the record's sectors carries its number and length.
-use Rattle.std.proofs.Common.{◌≡◌, ℕ, zero, suc, ◌<◌, ◌≤◌, Bool, true, false, cond, ◌&&◌, ◌||◌, T, eqb, ltb, leb, ◌≢◌, ◌⊎◌, List, sym, refl, ap, ◌∙◌, subst, inl, inr, arith, ltb-false, ltb-true, eq-eqb, ne_eqb, eqb-true, le-leb, leb-false, leb-true}
+use Rattle.std.proofs.Common.{◌≡◌, ℕ, zero, suc, ◌<◌, ◌≤◌, Bool, true, false, cond, ◌&&◌, ◌||◌, T, eqb, ltb, leb, ◌≢◌, ◌⊎◌, List, sym, refl, ap, ◌∙◌, subst, inl, inr, arith, ltb-false, ltb-true, eq-eqb, ne_eqb, eqb-true, le-leb, leb-false, leb-true, Some, None, Option, Ok, Err}
 use borrow.Author.Tests.{eqb-false}
-use Rattle.journal.specs.Format.{found}
-use Rattle.journal.specs.Scans.{scan_start, higher, scan_part, scan_found, scanned}
+use Rattle.journal.specs.Format.{Found, found}
+use Rattle.journal.specs.Scans.{scan_start, higher, still, scan_part, scan_found, scanned}
 use Rattle.journal.specs.declared.part.Part.{Part}
-use Rattle.journal.specs.declared.part.Found.{Found}
-use Rattle.journal.specs.declared.part.Found.TheVariants.{Blank, Part as IsPart, Foreign}
+use Rattle.journal.specs.declared.part.Foreign.{Foreign}
+use Rattle.journal.specs.declared.scan.Record.{Record}
 use Rattle.journal.specs.declared.scan.Scan.{Scan}
 use Rattle.recovery.proofs.Sound.{found_is}
 
 -- a sector is blank, or a part of a record whose number is no higher than this
 abbrev pub Ours : (size most i : ℕ) → List ℕ → Type 0
-Ours size most i b = (found size i b ≡ Blank) ⊎ ((p : Part) × (found size i b ≡ IsPart p) × (p.number ≤ most))
+Ours size most i b = (found size i b ≡ Ok None) ⊎ ((p : Part) × (found size i b ≡ Ok (Some p)) × (p.number ≤ most))
 
 -- a sector of this record
 abbrev pub Has : (size : ℕ) → (ℕ → List ℕ) → (n len i : ℕ) → Type 0
-Has size g n len i = (p : Part) × (found size i (g i) ≡ IsPart p) × (p.number ≡ n) × (p.length ≡ len)
+Has size g n len i = (p : Part) × (found size i (g i) ≡ Ok (Some p)) × (p.number ≡ n) × (p.length ≡ len)
 
 -- a record that is all there
 pub record Whole (size : ℕ) (g : ℕ → List ℕ) (n len : ℕ) : Type 0 where
@@ -23,8 +23,11 @@ pub record Whole (size : ℕ) (g : ℕ → List ℕ) (n len : ℕ) : Type 0 wher
   pub short : len ≤ 480
   pub each : (i : ℕ) → i < len → Has size g n len i
 
-clash : {A : Type 0} {p : Part} → Blank ≡ IsPart p → A
+clash : {A : Type 0} {p : Part} → ◌≡◌ {A = Found} (Ok None) (Ok (Some p)) → A
 clash q = let c : ◌≡◌ {A = ℕ} 0 1 = cc in absurd (omega arith)
+
+no-record : {A : Type 0} {r : Record} → ◌≡◌ {A = Option Record} None (Some r) → A
+no-record q = let c : ◌≡◌ {A = ℕ} 0 1 = cc in absurd (omega arith)
 
 -- the higher of two numbers
 pub high_left : (a b : ℕ) → a ≤ higher a b
@@ -50,43 +53,41 @@ high_most a b m h k = go (ltb a b)
 
 module _ (size : ℕ) (g : ℕ → List ℕ) where
   -- one more sector, by what it is found to be
-  next-blank : (k : ℕ) → found size k (g k) ≡ Blank → scanned size g (suc k) ≡ scan_found k Blank (scanned size g k)
+  next-blank : (k : ℕ) → found size k (g k) ≡ Ok None → scanned size g (suc k) ≡ scan_found k (Ok None) (scanned size g k)
   unfolding scanned
   next-blank k e = rw e
 
-  next-part : (k : ℕ) (p : Part) → found size k (g k) ≡ IsPart p → scanned size g (suc k) ≡ scan_part k p (scanned size g k)
+  next-part : (k : ℕ) (p : Part) → found size k (g k) ≡ Ok (Some p) → scanned size g (suc k) ≡ scan_part k p (scanned size g k)
   unfolding scanned scan_found
   next-part k p e = rw e
 
-  next_foreign : (k : ℕ) → found size k (g k) ≡ Foreign → scanned size g (suc k) ≡ scan_found k Foreign (scanned size g k)
+  next_foreign : (k : ℕ) (f : Foreign) → found size k (g k) ≡ Err f → scanned size g (suc k) ≡ scan_found k (Err f) (scanned size g k)
   unfolding scanned
-  next_foreign k e = rw e
+  next_foreign k f e = rw e
 
   -- what stays while a record goes on
-  pub record Holding (n len : ℕ) (s : Scan) : Type 0 where
-    pub whole : s.whole ≡ true
-    pub number : s.number ≡ n
-    pub length : s.length ≡ len
+  abbrev pub Holding : (n len : ℕ) → Scan → Type 0
+  Holding n len s = s.whole ≡ Some (record { number = n; length = len })
 
-  by-blank : (k n len : ℕ) (s : Scan) → Holding n len s → len ≤ k → Holding n len (scan_found k Blank s)
+  by-blank : (k n len : ℕ) (s : Scan) → Holding n len s → len ≤ k → Holding n len (scan_found k (Ok None) s)
   unfolding scan_found
-  by-blank k n len s h l = let e : s.length ≤ k = omega (arith, h.length) in record { whole = rw h.whole (le-leb s.length k e); number = h.number; length = h.length }
+  by-blank k n len s h l = rw (h, le-leb len k l)
 
   by_part : (k n len : ℕ) (p : Part) (s : Scan) → 1 ≤ k → Holding n len s → (len ≤ k) ⊎ ((p.number ≡ n) × (p.length ≡ len)) → Holding n len (scan_part k p s)
   unfolding scan_part
-  by_part k n len p s some h o = let ne : k ≢ 0 = omega arith in rw (ne_eqb k 0 ne) (record { whole = rw h.whole (fits o); number = h.number; length = h.length })
+  by_part k n len p s some h o = let ne : k ≢ 0 = omega arith in rw (ne_eqb k 0 ne, h, fits o)
     where
-      fits : (len ≤ k) ⊎ ((p.number ≡ n) × (p.length ≡ len)) → leb s.length k || (eqb p.number s.number && eqb p.length s.length) ≡ true
-      fits (inl l) = let e : s.length ≤ k = omega (arith, h.length) in rw (le-leb s.length k e)
-      fits (inr q) = go (leb s.length k)
+      fits : (len ≤ k) ⊎ ((p.number ≡ n) × (p.length ≡ len)) → leb len k || (eqb p.number n && eqb p.length len) ≡ true
+      fits (inl l) = rw (le-leb len k l)
+      fits (inr q) = go (leb len k)
         where
-          go : (b : Bool) → b || (eqb p.number s.number && eqb p.length s.length) ≡ true
+          go : (b : Bool) → b || (eqb p.number n && eqb p.length len) ≡ true
           go true = refl
-          go false = let a : p.number ≡ s.number = q.0 ∙ sym h.number in let b : p.length ≡ s.length = q.1 ∙ sym h.length in rw (eq-eqb p.number s.number a, eq-eqb p.length s.length b)
+          go false = rw (eq-eqb p.number n q.0, eq-eqb p.length len q.1)
 
   first_part : (n len : ℕ) (p : Part) → p.number ≡ n → p.length ≡ len → Holding n len (scan_part 0 p scan_start)
   unfolding scan_part
-  first_part n len p a b = record { whole = refl; number = a; length = b }
+  first_part n len p a b = rw (a, b)
 
   -- a record that is all there is found
   pub found_whole : (n len : ℕ) → Whole size g n len → (k : ℕ) → Holding n len (scanned size g (suc k))
@@ -100,106 +101,116 @@ module _ (size : ℕ) (g : ℕ → List ℕ) where
   found_whole n len w (suc k) = go (found size (suc k) (g (suc k))) refl (found_whole n len w k)
     where
       go : (x : Found) → found size (suc k) (g (suc k)) ≡ x → Holding n len (scanned size g (suc k)) → Holding n len (scanned size g (suc (suc k)))
-      go Blank e h = subst (Holding n len) (sym (next-blank (suc k) e)) (by-blank (suc k) n len (scanned size g (suc k)) h (far (leb len (suc k)) refl))
+      go (Ok None) e h = subst (Holding n len) (sym (next-blank (suc k) e)) (by-blank (suc k) n len (scanned size g (suc k)) h (far (leb len (suc k)) refl))
         where
           far : (b : Bool) → leb len (suc k) ≡ b → len ≤ suc k
           far true q = leb-true len (suc k) q
           far false q = let (p, f, a, b) = w.each (suc k) (omega (arith, leb-false len (suc k) q)) in clash (sym e ∙ f)
-      go (IsPart p) e h = subst (Holding n len) (sym (next-part (suc k) p e)) (by_part (suc k) n len p (scanned size g (suc k)) (omega arith) h (far (leb len (suc k)) refl))
+      go (Ok (Some p)) e h = subst (Holding n len) (sym (next-part (suc k) p e)) (by_part (suc k) n len p (scanned size g (suc k)) (omega arith) h (far (leb len (suc k)) refl))
         where
           far : (b : Bool) → leb len (suc k) ≡ b → (len ≤ suc k) ⊎ ((p.number ≡ n) × (p.length ≡ len))
           far true q = inl (leb-true len (suc k) q)
           far false q = let (p', f, a, b) = w.each (suc k) (omega (arith, leb-false len (suc k) q)) in let same : p' ≡ p = cc in inr (ap (λ (x : Part). x.number) (sym same) ∙ a, ap (λ (x : Part). x.length) (sym same) ∙ b)
-      go Foreign e h = subst (Holding n len) (sym (next_foreign (suc k) e)) (stays h)
-        where
-          stays : Holding n len (scanned size g (suc k)) → Holding n len (scan_found (suc k) Foreign (scanned size g (suc k)))
-          stays h = record { whole = h.whole; number = h.number; length = h.length }
+      go (Err f) e h = subst (Holding n len) (sym (next_foreign (suc k) f e)) h
+
+  -- a record that passed a test
+  passed : (f : Record → Bool) (o : Option Record) (r : Record) → still f o ≡ Some r → (o ≡ Some r) × (f r ≡ true)
+  passed f None r h = no-record h
+  passed f (Some q) r h = go (f q) refl h
+    where
+      go : (b : Bool) → f q ≡ b → cond b (Some q) None ≡ Some r → (Some q ≡ Some r) × (f r ≡ true)
+      go true e h = let same : q ≡ r = cc in (h, ap f (sym same) ∙ e)
+      go false e h = no-record h
 
   -- what was found so far, where the scan says that it is whole
-  pub record SoFar (k : ℕ) (s : Scan) : Type 0 where
-    pub some : 0 < s.length
-    pub short : s.length ≤ 480
-    pub each : (i : ℕ) → i < k → i < s.length → Has size g s.number s.length i
+  pub record SoFar (k : ℕ) (r : Record) : Type 0 where
+    pub some : 0 < r.length
+    pub short : r.length ≤ 480
+    pub each : (i : ℕ) → i < k → i < r.length → Has size g r.number r.length i
 
   both : (a b : Bool) → a && b ≡ true → (a ≡ true) × (b ≡ true)
   both true b h = (refl, h)
   both false b h = absurd (subst T (sym h) tt)
 
-  so_blank : (k : ℕ) (s : Scan) → (s.whole ≡ true → SoFar k s) → (scan_found k Blank s).whole ≡ true → SoFar (suc k) (scan_found k Blank s)
+  so_blank : (k : ℕ) (s : Scan) (r : Record) → ((r : Record) → s.whole ≡ Some r → SoFar k r) → (scan_found k (Ok None) s).whole ≡ Some r → SoFar (suc k) r
   unfolding scan_found
-  so_blank k s before h =
-      let w = both s.whole (leb s.length k) h in
-      let f = before w.0 in
-      let l = leb-true s.length k w.1 in
+  so_blank k s r before h =
+      let w = passed (λ (r : Record). leb r.length k) s.whole r h in
+      let f = before r w.0 in
+      let l = leb-true r.length k w.1 in
       record { some = f.some; short = f.short; each = λ i a b. f.each i (omega arith) b }
 
   abbrev begun : Part → Scan → Scan
-  begun p s = record { number = p.number; length = p.length; whole = true; highest = p.number; ours = s.ours }
+  begun p s = record { whole = Some (record { number = p.number; length = p.length }); highest = p.number; ours = s.ours }
+
+  abbrev is_of : ℕ → Part → Record → Bool
+  is_of k p r = leb r.length k || (eqb p.number r.number && eqb p.length r.length)
 
   abbrev more : ℕ → Part → Scan → Scan
-  more k p s = record { number = s.number; length = s.length; whole = s.whole && (leb s.length k || (eqb p.number s.number && eqb p.length s.length)); highest = higher s.highest p.number; ours = s.ours }
+  more k p s = record { whole = still (is_of k p) s.whole; highest = higher s.highest p.number; ours = s.ours }
 
-  so_part : (k : ℕ) (p : Part) (s : Scan) → found size k (g k) ≡ IsPart p → (s.whole ≡ true → SoFar k s) → (scan_part k p s).whole ≡ true → SoFar (suc k) (scan_part k p s)
+  so_part : (k : ℕ) (p : Part) (s : Scan) (r : Record) → found size k (g k) ≡ Ok (Some p) → ((r : Record) → s.whole ≡ Some r → SoFar k r) → (scan_part k p s).whole ≡ Some r → SoFar (suc k) r
   unfolding scan_part
-  so_part k p s e before h = go (eqb k 0) refl h
+  so_part k p s r e before h = go (eqb k 0) refl h
     where
-      go : (z : Bool) → eqb k 0 ≡ z → (cond {A = Scan} z (begun p s) (more k p s)).whole ≡ true → SoFar (suc k) (cond z (begun p s) (more k p s))
+      go : (z : Bool) → eqb k 0 ≡ z → (cond {A = Scan} z (begun p s) (more k p s)).whole ≡ Some r → SoFar (suc k) r
       go true q h =
           let z = eqb-true k 0 q in
           let f = (found_is size k (g k) p e).1 in
-          record { some = omega (arith, f.inside); short = f.short; each = λ i a b. let same : i ≡ k = omega arith in subst (Has size g p.number p.length) (sym same) (p, e, refl, refl) }
+          let same : ◌≡◌ {A = Record} (record { number = p.number; length = p.length }) r = cc in
+          subst (SoFar (suc k)) same (record { some = omega (arith, f.inside); short = f.short; each = λ i a b. let same : i ≡ k = omega arith in subst (Has size g p.number p.length) (sym same) (p, e, refl, refl) })
       go false q h =
-          let w = both s.whole (leb s.length k || (eqb p.number s.number && eqb p.length s.length)) h in
-          let f = before w.0 in
+          let w = passed (is_of k p) s.whole r h in
+          let f = before r w.0 in
           record { some = f.some; short = f.short; each = λ i a b. pick i a b w.1 f (eqb i k) refl }
         where
-          alike : (x : Bool) → leb s.length k ≡ x → x || (eqb p.number s.number && eqb p.length s.length) ≡ true → k < s.length → (p.number ≡ s.number) × (p.length ≡ s.length)
-          alike true a b c = absurd (omega (arith, leb-true s.length k a))
-          alike false a b c = let t = both (eqb p.number s.number) (eqb p.length s.length) b in (eqb-true p.number s.number t.0, eqb-true p.length s.length t.1)
+          alike : (x : Bool) → leb r.length k ≡ x → x || (eqb p.number r.number && eqb p.length r.length) ≡ true → k < r.length → (p.number ≡ r.number) × (p.length ≡ r.length)
+          alike true a b c = absurd (omega (arith, leb-true r.length k a))
+          alike false a b c = let t = both (eqb p.number r.number) (eqb p.length r.length) b in (eqb-true p.number r.number t.0, eqb-true p.length r.length t.1)
 
-          pick : (i : ℕ) → i < suc k → i < s.length → leb s.length k || (eqb p.number s.number && eqb p.length s.length) ≡ true → SoFar k s → (x : Bool) → eqb i k ≡ x → Has size g s.number s.length i
-          pick i a b c f true q = let same = eqb-true i k q in let t = alike (leb s.length k) refl c (omega arith) in subst (Has size g s.number s.length) (sym same) (p, e, t.0, t.1)
+          pick : (i : ℕ) → i < suc k → i < r.length → is_of k p r ≡ true → SoFar k r → (x : Bool) → eqb i k ≡ x → Has size g r.number r.length i
+          pick i a b c f true q = let same = eqb-true i k q in let t = alike (leb r.length k) refl c (omega arith) in subst (Has size g r.number r.length) (sym same) (p, e, t.0, t.1)
           pick i a b c f false q = f.each i (omega (arith, eqb-false i k q)) b
 
-  pub so_far : (most k : ℕ) → ((i : ℕ) → i < k → Ours size most i (g i)) → (scanned size g k).whole ≡ true → SoFar k (scanned size g k)
+  pub so_far : (most k : ℕ) (r : Record) → ((i : ℕ) → i < k → Ours size most i (g i)) → (scanned size g k).whole ≡ Some r → SoFar k r
   unfolding scanned
-  so_far most zero o h = absurd (subst T (sym h) tt)
-  so_far most (suc k) o h = go (o k (omega arith)) (so_far most k (λ i l. o i (omega arith)))
+  so_far most zero r o h = no-record h
+  so_far most (suc k) r o h = go (o k (omega arith)) (λ q. so_far most k q (λ i l. o i (omega arith)))
     where
-      go : Ours size most k (g k) → ((scanned size g k).whole ≡ true → SoFar k (scanned size g k)) → SoFar (suc k) (scanned size g (suc k))
-      go (inl e) before = subst (SoFar (suc k)) (sym (next-blank k e)) (so_blank k (scanned size g k) before (subst (λ (s : Scan). s.whole ≡ true) (next-blank k e) h))
-      go (inr q) before = let (p, e, l) = q in subst (SoFar (suc k)) (sym (next-part k p e)) (so_part k p (scanned size g k) e before (subst (λ (s : Scan). s.whole ≡ true) (next-part k p e) h))
+      go : Ours size most k (g k) → ((q : Record) → (scanned size g k).whole ≡ Some q → SoFar k q) → SoFar (suc k) r
+      go (inl e) before = so_blank k (scanned size g k) r before (subst (λ (s : Scan). s.whole ≡ Some r) (next-blank k e) h)
+      go (inr q) before = let (p, e, l) = q in so_part k p (scanned size g k) r e before (subst (λ (s : Scan). s.whole ≡ Some r) (next-part k p e) h)
 
   -- a record that is found is all there
-  pub whole_found : (most : ℕ) → ((i : ℕ) → i < 480 → Ours size most i (g i)) → (scanned size g 480).whole ≡ true → Whole size g (scanned size g 480).number (scanned size g 480).length
-  whole_found most o h = let f = so_far most 480 o h in record { some = f.some; short = f.short; each = λ i l. f.each i (omega (arith, f.short)) l }
+  pub whole_found : (most : ℕ) → ((i : ℕ) → i < 480 → Ours size most i (g i)) → (r : Record) → (scanned size g 480).whole ≡ Some r → Whole size g r.number r.length
+  whole_found most o r h = let f = so_far most 480 r o h in record { some = f.some; short = f.short; each = λ i l. f.each i (omega (arith, f.short)) l }
 
   -- what a scan has seen: nothing foreign, and the highest number
   pub record Seen (most k : ℕ) (s : Scan) : Type 0 where
     pub ours : s.ours ≡ true
     pub below : s.highest ≤ most
-    pub above : (i : ℕ) (p : Part) → i < k → found size i (g i) ≡ IsPart p → p.number ≤ s.highest
+    pub above : (i : ℕ) (p : Part) → i < k → found size i (g i) ≡ Ok (Some p) → p.number ≤ s.highest
 
-  seen-blank : (most k : ℕ) (s : Scan) → found size k (g k) ≡ Blank → Seen most k s → Seen most (suc k) (scan_found k Blank s)
+  seen-blank : (most k : ℕ) (s : Scan) → found size k (g k) ≡ Ok None → Seen most k s → Seen most (suc k) (scan_found k (Ok None) s)
   unfolding scan_found
   seen-blank most k s e h = record { ours = h.ours; below = h.below; above = λ i p l f. go i p l f (eqb i k) refl }
     where
-      go : (i : ℕ) (p : Part) → i < suc k → found size i (g i) ≡ IsPart p → (x : Bool) → eqb i k ≡ x → p.number ≤ s.highest
-      go i p l f true q = clash (sym e ∙ subst (λ (j : ℕ). found size j (g j) ≡ IsPart p) (eqb-true i k q) f)
+      go : (i : ℕ) (p : Part) → i < suc k → found size i (g i) ≡ Ok (Some p) → (x : Bool) → eqb i k ≡ x → p.number ≤ s.highest
+      go i p l f true q = clash (sym e ∙ subst (λ (j : ℕ). found size j (g j) ≡ Ok (Some p)) (eqb-true i k q) f)
       go i p l f false q = h.above i p (omega (arith, eqb-false i k q)) f
 
-  seen-part : (most k : ℕ) (p : Part) (s : Scan) → found size k (g k) ≡ IsPart p → p.number ≤ most → Seen most k s → Seen most (suc k) (scan_part k p s)
+  seen-part : (most k : ℕ) (p : Part) (s : Scan) → found size k (g k) ≡ Ok (Some p) → p.number ≤ most → Seen most k s → Seen most (suc k) (scan_part k p s)
   unfolding scan_part
   seen-part most k p s e l h = go (eqb k 0) refl
     where
-      here : (i : ℕ) (q : Part) → eqb i k ≡ true → found size i (g i) ≡ IsPart q → q.number ≡ p.number
-      here i q z f = let u = subst (λ (j : ℕ). found size j (g j) ≡ IsPart q) (eqb-true i k z) f in let same : q ≡ p = cc in ap (λ (x : Part). x.number) same
+      here : (i : ℕ) (q : Part) → eqb i k ≡ true → found size i (g i) ≡ Ok (Some q) → q.number ≡ p.number
+      here i q z f = let u = subst (λ (j : ℕ). found size j (g j) ≡ Ok (Some q)) (eqb-true i k z) f in let same : q ≡ p = cc in ap (λ (x : Part). x.number) same
 
       go : (z : Bool) → eqb k 0 ≡ z → Seen most (suc k) (cond z (begun p s) (more k p s))
       go true z = record { ours = h.ours; below = l; above = λ i q a f. let same = here i q (eq-eqb i k (omega (arith, eqb-true k 0 z))) f in omega arith }
       go false z = record { ours = h.ours; below = high_most s.highest p.number most h.below l; above = λ i q a f. pick i q a f (eqb i k) refl }
         where
-          pick : (i : ℕ) (q : Part) → i < suc k → found size i (g i) ≡ IsPart q → (x : Bool) → eqb i k ≡ x → q.number ≤ higher s.highest p.number
+          pick : (i : ℕ) (q : Part) → i < suc k → found size i (g i) ≡ Ok (Some q) → (x : Bool) → eqb i k ≡ x → q.number ≤ higher s.highest p.number
           pick i q a f true x = omega (arith, here i q x f, high_right s.highest p.number)
           pick i q a f false x = omega (arith, h.above i q (omega (arith, eqb-false i k x)) f, high_left s.highest p.number)
 

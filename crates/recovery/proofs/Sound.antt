@@ -1,15 +1,14 @@
 -- What a sector of the journal is found to be: blank sectors and parts of records as they were written.
-use Rattle.std.proofs.Common.{◌≡◌, ℕ, zero, suc, ◌/◌, ◌%◌, ◌^◌, ◌<◌, ◌≤◌, Bool, true, false, cond, ◌&&◌, T, eqb, ltb, leb, List, [], ◌∷◌, ◌++◌, length, get_or, take, replicate, sym, refl, ap, ◌∙◌, subst, arith, length-append, ltb-true, lt-ltb, eq-eqb, eqb-true, le-leb, leb-true}
+use Rattle.std.proofs.Common.{◌≡◌, ℕ, zero, suc, ◌/◌, ◌%◌, ◌^◌, ◌<◌, ◌≤◌, Bool, true, false, cond, ◌&&◌, T, eqb, ltb, leb, List, [], ◌∷◌, ◌++◌, length, get_or, take, replicate, sym, refl, ap, ◌∙◌, subst, arith, length-append, ltb-true, lt-ltb, eq-eqb, eqb-true, le-leb, leb-true, Ok, Err, Some, None}
 use Rattle.std.proofs.lemmas.List.{take_at, drop_at}
 use Rattle.disks.specs.Device.{zeros, all_bytes}
 use Rattle.octets.specs.Numbers.{field, numbers_bytes, small, bytes_of}
 use Rattle.octets.proofs.Numbers.{join}
 use Rattle.octets.proofs.Fields.{field_at, length-numbers}
-use Rattle.journal.specs.Format.{mark, slot_sectors, guarded, numbers_end, part_bytes, part_of, half_of, is_sound, found}
+use Rattle.journal.specs.Format.{mark, slot_sectors, guarded, numbers_end, part_bytes, part_of, half_of, is_sound, found, foreign}
 use Rattle.journal.specs.declared.part.Part.{Part}
-use Rattle.journal.specs.declared.part.Found.TheVariants.{Blank, Part as IsPart, Foreign}
 
-pub found_blank : (size i : ℕ) → found size i (zeros 512) ≡ Blank
+pub found_blank : (size i : ℕ) → found size i (zeros 512) ≡ Ok None
 unfolding found zeros
 found_blank size i = refl
 
@@ -56,11 +55,11 @@ is_sound_lem size i p s =
     rw (le-leb 1 p.number s.some, lt-ltb p.number numbers_end s.below, eq-eqb p.index i s.index, lt-ltb i p.length s.inside, le-leb p.length slot_sectors s.short, eq-eqb (p.length % 2) 0 s.even, le-leb guarded p.target.0 s.guarded, lt-ltb p.target.0 size s.within)
 
 -- what is found as a part is sound, and what the bytes say
-pub found_is : (size i : ℕ) (b : List ℕ) (p : Part) → found size i b ≡ IsPart p → (p ≡ part_of b) × Sound size i p
+pub found_is : (size i : ℕ) (b : List ℕ) (p : Part) → found size i b ≡ Ok (Some p) → (p ≡ part_of b) × Sound size i p
 unfolding found
 found_is size i b p h = go (eqb (field 0 b) 0) (eqb (field 0 b) mark) (is_sound size i (part_of b)) refl h
   where
-    go : (x y z : Bool) → is_sound size i (part_of b) ≡ z → cond x Blank (cond (y && z) (IsPart (part_of b)) Foreign) ≡ IsPart p → (p ≡ part_of b) × Sound size i p
+    go : (x y z : Bool) → is_sound size i (part_of b) ≡ z → cond x (Ok None) (cond (y && z) (Ok (Some (part_of b))) (Err foreign)) ≡ Ok (Some p) → (p ≡ part_of b) × Sound size i p
     go true y z e q = let c : ◌≡◌ {A = ℕ} 0 1 = cc in absurd (omega arith)
     go false true true e q = let same : p ≡ part_of b = cc in (same, subst (Sound size i) (sym same) (sound_is size i (part_of b) e))
     go false true false e q = let c : ◌≡◌ {A = ℕ} 0 1 = cc in absurd (omega arith)
@@ -86,7 +85,7 @@ module _ (size i : ℕ) (p : Part) (half : List ℕ) (s : Sound size i p) (fits 
   part_back = let a = at_field 1 (omega arith) in let b = at_field 2 (omega arith) in let c = at_field 3 (omega arith) in let d = at_field 4 (omega arith) in
       rw (a, b, c, d)
 
-  pub found_part : found size i (part_bytes p half) ≡ IsPart p
+  pub found_part : found size i (part_bytes p half) ≡ Ok (Some p)
   unfolding found
   found_part =
       let m : field 0 (part_bytes p half) ≡ mark = at_field 0 (omega arith) in

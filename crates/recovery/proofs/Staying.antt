@@ -1,24 +1,20 @@
 -- The journal asks only for sectors of its device, and writes only whole sectors of bytes.
-use Rattle.std.proofs.Common.{◌≡◌, ℕ, zero, suc, ◌+◌, ◌*◌, ◌<◌, ◌≤◌, Bool, true, false, cond, ◌&&◌, T, eqb, ltb, leb, List, [], ◌∷◌, ◌++◌, length, drop, sym, refl, ◌∙◌, subst, arith, ltb→lt, length-append, length-drop, length-take, ltb-true, eqb-true}
+use Rattle.std.proofs.Common.{◌≡◌, ℕ, zero, suc, ◌+◌, ◌*◌, ◌<◌, ◌≤◌, Bool, true, false, cond, ◌&&◌, T, eqb, ltb, leb, List, [], ◌∷◌, ◌++◌, length, drop, sym, refl, ◌∙◌, subst, arith, ltb→lt, length-append, length-drop, length-take, ltb-true, eqb-true, Ok, Err}
 use Rattle.disks.specs.Device
 use Rattle.disks.specs.Device.{Device, Io, answer, read, write, sync, run, Ran, Fair, shown, written, synced, then', Event, World, off, on, Trace, all_bytes}
 use Rattle.compose.proofs.Inside.{fair_then}
 use Rattle.octets.proofs.Fields.{bytes_take, bytes_drop}
 use Rattle.journal.specs.Format.{part_of, half_of}
 use Rattle.journal.specs.Scans.{scan_start, scan_next, scanned, redo_count, write_at, writes_from}
-use Rattle.journal.specs.Programs.{base, other, in_area, all_in_area, allowed, write_all_io, record_from, record_of, transact_io, put_io, Put', get_io, after_put, scan_from, scan_io, replay_from, redo_io, recover_io, open_io, ready}
+use Rattle.journal.specs.Programs.{base, other, in_area, all_in_area, allowed, write_all_io, record_from, record_of, transact_io, put_io, Put', get_io, after_put, scan_from, scan_io, replay_from, redo_io, recover_io, open_io, ready, Opened}
 use Rattle.recovery.specs.Machines.{Call, Get, Put, Reply, No, put_reply, whole_sectors, call_io, Array, array, JournalWithin}
 use Rattle.journal.specs.declared.state.Refused.TheVariants.{OutOfRange, NumbersUsedUp}
-use Rattle.journal.specs.declared.state.Outcome.TheVariants.{Done, Refused}
-use Rattle.journal.specs.declared.state.Got.TheVariants.{Sector, Refused as GotRefused}
 use Rattle.journal.specs.declared.Place.{Place}
 use Rattle.journal.specs.declared.scan.Scan.{Scan}
 use Rattle.journal.specs.declared.state.Write.{Write}
 use Rattle.journal.specs.declared.state.Slot.{Slot}
 use Rattle.journal.specs.declared.state.Slot.TheVariants.{First, Second}
 use Rattle.journal.specs.declared.state.Journal.{Journal}
-use Rattle.journal.specs.declared.state.Opened.{Opened}
-use Rattle.journal.specs.declared.state.Opened.TheVariants.{Ready, Foreign}
 use Rattle.recovery.proofs.Sound.{bytes-append}
 use Rattle.recovery.proofs.Records.{sector-bytes}
 use Rattle.recovery.proofs.Redoing.{slot_of, found_in_area, redo_few, one_run, same_after, apart_from, further}
@@ -118,7 +114,7 @@ module _ (size n : ℕ) (array : ℕ → List ℕ) (d : Device) (off' : Off size
   unfolding open_io run
   fair_open =
       let (o, x) = which size n array d off' in
-      let last' : Fair size (recover_io size (scan First) (scan Second)) d = subst (λ (p : Io Opened). Fair size p d) (sym (recover_is size n array d off' o x)) (fair_then size (redo_io o (scan o) (scan (other o))) (λ _. answer (Ready (ready size o (scan o) (scan (other o))))) d (fair_redo o) (Fair.ends _ _)) in
+      let last' : Fair size (recover_io size (scan First) (scan Second)) d = subst (λ (p : Io Opened). Fair size p d) (sym (recover_is size n array d off' o x)) (fair_then size (redo_io o (scan o) (scan (other o))) (λ _. answer (Ok (ready size o (scan o) (scan (other o))))) d (fair_redo o) (Fair.ends _ _)) in
       let second' = fair_then size (scan_io size Second) (λ b. recover_io size (scan First) b) d (fair_slot Second) (subst (λ (r : Ran Scan). Fair size (recover_io size (scan First) r.value) r.device) (sym (scan_is size n array d off' Second)) last') in
       fair_then size (scan_io size First) (λ a. then' (scan_io size Second) (λ b. recover_io size a b)) d (fair_slot First) (subst (λ (r : Ran Scan). Fair size (then' (scan_io size Second) (λ b. recover_io size r.value b)) r.device) (sym (scan_is size n array d off' First)) second')
 
@@ -128,7 +124,7 @@ module _ (size n : ℕ) (array : ℕ → List ℕ) (j : Journal) (d : Device) (o
   unfolding get_io
   fair_get p = go (in_area j.size p.0) refl
     where
-      go : (b : Bool) → in_area j.size p.0 ≡ b → Fair size (cond b (read p.0 (λ b. answer (Sector b))) (answer (GotRefused OutOfRange))) d
+      go : (b : Bool) → in_area j.size p.0 ≡ b → Fair size (cond b (read p.0 (λ b. answer (Ok b))) (answer (Err OutOfRange))) d
       go true e = let t = both (leb 960 p.0) (ltb p.0 j.size) (subst T (sym e) tt) in Fair.reads (omega (arith, ltb→lt p.0 j.size t.1, o.safe.size_is)) (Fair.ends _ _)
       go false e = Fair.ends _ _
 
@@ -141,21 +137,21 @@ module _ (size n : ℕ) (array : ℕ → List ℕ) (j : Journal) (d : Device) (o
       slot_low Second = omega arith
 
       go : (a : Bool) → allowed j.size ws ≡ a → (b : Bool) → ltb j.next 4611686018427387904 ≡ b →
-          Fair size {A = Put'} (cond a (cond b (then' (then' (write_all_io (record_of (base j.slot) j.next ws)) (λ _. sync (write_all_io ws))) (λ _. answer (record { outcome = Done; journal = after_put j }))) (answer (record { outcome = Refused NumbersUsedUp; journal = j }))) (answer (record { outcome = Refused OutOfRange; journal = j }))) d
+          Fair size {A = Put'} (cond a (cond b (then' (then' (write_all_io (record_of (base j.slot) j.next ws)) (λ _. sync (write_all_io ws))) (λ _. answer (record { outcome = Ok tt; journal = after_put j }))) (answer (record { outcome = Err NumbersUsedUp; journal = j }))) (answer (record { outcome = Err OutOfRange; journal = j }))) d
       go true e true q =
           let f = fine size ws (subst (λ (z : ℕ). T (allowed z ws)) o.safe.size_is (subst T (sym e) tt)) in
-          fair_then size (then' (write_all_io (record_of (base j.slot) j.next ws)) (λ _. sync (write_all_io ws))) (λ _. answer (record { outcome = Done; journal = after_put j })) d
+          fair_then size (then' (write_all_io (record_of (base j.slot) j.next ws)) (λ _. sync (write_all_io ws))) (λ _. answer (record { outcome = Ok tt; journal = after_put j })) d
           (fair_then size (write_all_io (record_of (base j.slot) j.next ws)) (λ _. sync (write_all_io ws)) d (fair_all size (record_of (base j.slot) j.next ws) d (good_record size (base j.slot) j.next ws (omega (arith, o.safe.above)) (ltb-true j.next 4611686018427387904 q) f.few f.area s fits 0 (2 * length ws) (omega arith) (slot_low j.slot)))
           (Fair.syncs (fair_all size ws _ (good-area size ws f.area s)))) (Fair.ends _ _)
       go true e false q = Fair.ends _ _
       go false e b q = Fair.ends _ _
 
-  pub fair_call : (c : Call) → Fair size (call_io c (Ready j)) d
+  pub fair_call : (c : Call) → Fair size (call_io c (Ok j)) d
   unfolding call_io
   fair_call (Get p) = fair_then size (get_io j p) _ d (fair_get p) (Fair.ends _ _)
   fair_call (Put ws) = go (whole_sectors ws) refl
     where
-      go : (b : Bool) → whole_sectors ws ≡ b → Fair size {A = record { reply : Reply; mem : Opened }} (cond b (then' (put_io j ws) (λ x. answer (record { reply = put_reply x.outcome; mem = Ready x.journal }))) (answer (record { reply = No 1; mem = Ready j }))) d
+      go : (b : Bool) → whole_sectors ws ≡ b → Fair size {A = record { reply : Reply; mem : Opened }} (cond b (then' (put_io j ws) (λ x. answer (record { reply = put_reply x.outcome; mem = Ok x.journal }))) (answer (record { reply = No 1; mem = Ok j }))) d
       go true e = fair_then size (put_io j ws) _ d (fair_put ws (subst T (sym e) tt)) (Fair.ends _ _)
       go false e = Fair.ends _ _
 
@@ -166,5 +162,5 @@ journal-within size lo hi = (
 )
   where
     on_call : {es : List (Event Call Reply)} {d : Device} (m : Opened) → (a : Array) × Device.Allowed (array size) es a × Inv size hi (on m d) a → (c : Call) → Fair size (call_io c m) d
-    on_call (Ready j) (a, al, o) c = fair_call size a.steps a.sector j _ o lo hi c
-    on_call Foreign (a, al, o) c = absurd o
+    on_call (Ok j) (a, al, o) c = fair_call size a.steps a.sector j _ o lo hi c
+    on_call (Err e) (a, al, o) c = absurd o

@@ -1,16 +1,10 @@
 -- The journal as a machine, and the judge that it keeps to: an array of sectors.
 -- Assumes nothing.
-use Rattle.std.specs.Prelude.{◌≡◌, ℕ, suc, ◌≤◌, Bool, true, false, cond, ◌&&◌, T, List, [], ◌∷◌, length, ◌==◌}
+use Rattle.std.specs.Prelude.{◌≡◌, ℕ, suc, ◌≤◌, Bool, true, false, cond, ◌&&◌, T, List, [], ◌∷◌, length, Ok, Err, ◌==◌}
 use Rattle.disks.specs.Device.{Io, answer, then', zeros, all_bytes, Machine, Judge, Keeps, Within}
-use Rattle.journal.specs.Programs.{refusal, in_area, allowed, get_io, put_io, open_io}
+use Rattle.journal.specs.Programs.{Opened, Outcome, Got, refusal, foreign_refusal, in_area, allowed, get_io, put_io, open_io}
 use Rattle.journal.specs.declared.Place.{Place}
 use Rattle.journal.specs.declared.state.Write.{Write}
-use Rattle.journal.specs.declared.state.Opened.{Opened}
-use Rattle.journal.specs.declared.state.Opened.TheVariants.{Ready, Foreign}
-use Rattle.journal.specs.declared.state.Outcome.{Outcome}
-use Rattle.journal.specs.declared.state.Outcome.TheVariants.{Done, Refused as PutRefused}
-use Rattle.journal.specs.declared.state.Got.{Got}
-use Rattle.journal.specs.declared.state.Got.TheVariants.{Sector, Refused as GotRefused}
 
 pub data Call : Type 0 where
   Get : Place → Call
@@ -22,12 +16,12 @@ pub data Reply : Type 0 where
   No : ℕ → Reply
 
 abbrev pub got_reply : Got → Reply
-got_reply (Sector b) = Got' b
-got_reply (GotRefused r) = No (refusal r)
+got_reply (Ok b) = Got' b
+got_reply (Err r) = No (refusal r)
 
 abbrev pub put_reply : Outcome → Reply
-put_reply Done = Done'
-put_reply (PutRefused r) = No (refusal r)
+put_reply (Ok u) = Done'
+put_reply (Err r) = No (refusal r)
 
 -- sectors of 512 bytes; the code's type has no others
 unfoldable pub whole_sectors : List Write → Bool
@@ -35,10 +29,10 @@ whole_sectors [] = true
 whole_sectors (w ∷ ws) = (length w.bytes == 512 && all_bytes w.bytes) && whole_sectors ws
 
 unfoldable pub call_io : Call → Opened → Io (record { reply : Reply; mem : Opened })
-call_io (Get p) (Ready j) = then' (get_io j p) (λ g. answer (record { reply = got_reply g; mem = Ready j }))
-call_io (Put ws) (Ready j) = cond (whole_sectors ws) (then' (put_io j ws) (λ x. answer (record { reply = put_reply x.outcome; mem = Ready x.journal }))) (answer (record { reply = No 1; mem = Ready j }))
+call_io (Get p) (Ok j) = then' (get_io j p) (λ g. answer (record { reply = got_reply g; mem = Ok j }))
+call_io (Put ws) (Ok j) = cond (whole_sectors ws) (then' (put_io j ws) (λ x. answer (record { reply = put_reply x.outcome; mem = Ok x.journal }))) (answer (record { reply = No 1; mem = Ok j }))
 -- a device that isn't ours
-call_io c Foreign = answer (record { reply = No 16; mem = Foreign })
+call_io c (Err e) = answer (record { reply = No (foreign_refusal e); mem = Err e })
 
 abbrev pub journal : Machine Call Reply
 journal = record { Mem = Opened; opens = open_io; does = call_io }

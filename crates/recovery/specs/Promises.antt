@@ -1,15 +1,13 @@
 -- What else is promised of the journal: what it costs, that opening may be repeated, and what it makes of a device that isn't ours.
 -- Assumes nothing.
-use Rattle.std.specs.Prelude.{◌≡◌, ℕ, ◌+◌, ◌*◌, ◌<◌, ◌≤◌, T, ◌≢◌, List, length}
+use Rattle.std.specs.Prelude.{◌≡◌, ℕ, ◌+◌, ◌*◌, ◌<◌, ◌≤◌, T, ◌≢◌, List, length, Ok, Err}
 use Rattle.disks.specs.Device.{Device, Io, answer, read, write, sync, run, Upto, shown, written, synced, AfterCut, Event, off, Trace}
-use Rattle.journal.specs.Format.{found}
+use Rattle.journal.specs.Format.{foreign, found}
 use Rattle.journal.specs.Programs.{base, in_area, allowed, put_io, open_io}
 use Rattle.recovery.specs.Machines.{Call, Reply, journal}
-use Rattle.journal.specs.declared.part.Found.TheVariants.{Foreign as IsForeign}
 use Rattle.journal.specs.declared.state.Write.{Write}
 use Rattle.journal.specs.declared.state.Slot.{Slot}
 use Rattle.journal.specs.declared.state.Journal.{Journal}
-use Rattle.journal.specs.declared.state.Opened.TheVariants.{Ready, Foreign}
 
 -- the requests of a program, each read counted as r, each write as w, each sync as s
 unfoldable pub count : {A : Type 0} → (r w s : ℕ) → Io A → Device → ℕ
@@ -36,7 +34,7 @@ OpensAgain =
 
 -- a device with a sector in its journal that is neither blank nor a part is not ours, and left alone; any other is opened
 abbrev pub ForeignRefused : Type 0
-ForeignRefused = (size : ℕ) (d : Device) (slot : Slot) (i : ℕ) → i < 480 → found size i (shown d (base slot + i)) ≡ IsForeign → run (open_io size) d ≡ record { value = Foreign; device = d }
+ForeignRefused = (size : ℕ) (d : Device) (slot : Slot) (i : ℕ) → i < 480 → found size i (shown d (base slot + i)) ≡ Err foreign → run (open_io size) d ≡ record { value = Err foreign; device = d }
 
 abbrev pub OursOpened : Type 0
-OursOpened = (size : ℕ) (d : Device) → ((slot : Slot) (i : ℕ) → i < 480 → found size i (shown d (base slot + i)) ≢ IsForeign) → (j : Journal) × ((run (open_io size) d).value ≡ Ready j)
+OursOpened = (size : ℕ) (d : Device) → ((slot : Slot) (i : ℕ) → i < 480 → found size i (shown d (base slot + i)) ≢ Err foreign) → (j : Journal) × ((run (open_io size) d).value ≡ Ok j)

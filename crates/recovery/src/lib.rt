@@ -6,7 +6,7 @@ ghost use Rattle.recovery.specs.Promises.{PutCosts, OpenCosts, OpensAgain, Forei
 
 // It keeps to an array of sectors, stays within its device, costs no more than this, may be opened again after any cut, and leaves a device
 // alone that isn't ours.
-pub fn journal_promised() -> u8
+pub fn journal_promised()
     ensures keeps { JournalKeeps }
     ensures within { JournalWithin }
     ensures put { PutCosts }
@@ -14,6 +14,4 @@ pub fn journal_promised() -> u8
     ensures again { OpensAgain }
     ensures foreign { ForeignRefused }
     ensures ours { OursOpened }
-{
-    0
-}
+{}

@@ -1,13 +1,11 @@
-use Rattle.std.proofs.Common.{arith}
-use Rattle.std.proofs.lemmas.Bool.Decides.{nat_tests}
-use Rattle.journal.proofs.Writes.{guarded_more, guarded_all}
+use Rattle.std.proofs.Common.{rules}
+use borrow.Author.Tests.{tests}
+use Rattle.std.proofs.lemmas.Iterator.{YieldsList-from_slice}
+use Rattle.std.proofs.lemmas.Iterator.Search.{all_from_yields_List}
+use Rattle.journal.specs.declared.state.Write.{Write}
+use Rattle.journal.specs.Programs.{in_area, all_in_area}
 use Rattle.journal.proofs.state.are_guarded.Goals as goal
 
-pub returns-then-not-is_guarded : goal.returns-then-not-is_guarded
-returns-then-not-is_guarded c = let more = guarded_more c.args.size c.args.writes.now c.loop-write.write-index c.loop-write-test.true in grind (arith, nat_tests)
-
-pub loop-write-preserved : goal.loop-write-preserved
-loop-write-preserved c = let more = guarded_more c.args.size c.args.writes.now c.loop-write.write-index c.loop-write-test.true in grind (arith, nat_tests)
-
 pub returns : goal.returns
-returns c = let all = guarded_all c.args.size c.args.writes.now c.loop-write.write-index c.loop-write-test.false in grind (arith, nat_tests)
+unfolding all_in_area
+returns c = all_from_yields_List (λ (w : Write). in_area c.args.size w.target.0) _ _ _ c.all.ensures.ran (YieldsList-from_slice c.args.writes.now cc) (λ x b q k. search (rules, tests))

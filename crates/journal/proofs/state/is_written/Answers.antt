@@ -1,13 +1,11 @@
-use Rattle.std.proofs.Common.{arith}
-use Rattle.std.proofs.lemmas.Bool.Decides.{nat_tests}
-use Rattle.journal.proofs.Writes.{named_more, named_all}
+use Rattle.std.proofs.Common.{◌==◌, rules}
+use borrow.Author.Tests.{tests}
+use Rattle.std.proofs.lemmas.Iterator.{YieldsList-from_slice}
+use Rattle.std.proofs.lemmas.Iterator.Search.{any_from_yields_List}
+use Rattle.journal.specs.declared.state.Write.{Write}
+use Rattle.journal.specs.Programs.{named}
 use Rattle.journal.proofs.state.is_written.Goals as goal
 
-pub returns-then-eq : goal.returns-then-eq
-returns-then-eq c = let more = named_more c.args.at.0 c.args.writes.now c.loop-write.write-index c.loop-write-test.true in grind (arith, nat_tests)
-
-pub loop-write-preserved : goal.loop-write-preserved
-loop-write-preserved c = let more = named_more c.args.at.0 c.args.writes.now c.loop-write.write-index c.loop-write-test.true in grind (arith, nat_tests)
-
 pub returns : goal.returns
-returns c = let all = named_all c.args.at.0 c.args.writes.now c.loop-write.write-index c.loop-write-test.false in grind (arith, nat_tests)
+unfolding named
+returns c = any_from_yields_List (λ (w : Write). c.args.at.0 == w.target.0) _ _ _ c.any.ensures.ran (YieldsList-from_slice c.args.writes.now cc) (λ x b q k. search (rules, tests))
