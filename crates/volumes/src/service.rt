@@ -7,6 +7,7 @@ ghost use Rattle.volumes.specs.Service.{blank_service, the_service, the_served, 
 ghost use Rattle.volumes.specs.Simulation.{needed, the_place, ServesTheMeaning, RoomIsCore};
 ghost use Rattle.wire.specs.Calls.{the_call};
 ghost use Rattle.std.specs.Option.{option_map};
+ghost use Rattle.std.specs.List.{position_from};
 ghost use Rattle.volumes.specs.declared.outcome.Change.TheVariants.{Nothing};
 
 use crate::head::Head;
@@ -63,16 +64,20 @@ impl Volumes {
     }
 }
 
-// Where a volume's head stands among heads, and the head.
+// Where a volume's head stands among heads. They are a list and not a map, since a call must not fail for want of memory, and a map
+// takes memory each time a volume is made.
+fn position(heads: &[Head], volume: Volume) -> Option<usize>
+    ensures { result ≡ position_from (is_head volume.0) 0 heads.now }
+{
+    heads.iter().position(|head| head.number == volume)
+}
+
+// The same, and the head.
 fn find(heads: &[Head], volume: Volume) -> Option<(usize, Head)>
     ensures { MatchOption result (find (is_head volume.0) heads.now ≡ []) (λ p. First (is_head volume.0) heads.now p.0 p.1) }
 {
-    for (i, head) in heads.iter().enumerate() {
-        if head.number.0 == volume.0 {
-            return Some((i, *head));
-        }
-    }
-    None
+    let at = position(heads, volume)?;
+    Some((at, heads[at]))
 }
 
 // An answer that changes nothing.
