@@ -6,7 +6,7 @@ use Rattle.volumes.proofs.volumes.Volumes.attach.Goals as goal
 pub invariant_of-self : goal.invariant_of-self
 invariant_of-self c =
     let v = c.args.self.now in
-    let p = c.in-Some.ensures in
-    let weighed = counted-set v.weight c.as_slice.ensures.value p v.counted (with_token (c.in-Some.head.token.0 + 1) c.in-Some.head) in
+    let p = c.in_ok-at.ensures in
+    let weighed = counted-set v.weight c.as_slice.ensures.value p v.counted (with_token (c.in_ok-at.head.token.0 + 1) c.in_ok-at.head) in
     let least = found_weighs v.weight c.as_slice.ensures.value p v.counted in
     record { reserved = v.reserved; counted = omega (arith, weighed, least); within = v.within; limited = v.limited }
