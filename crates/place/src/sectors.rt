@@ -49,16 +49,11 @@ impl Sectors {
         ensures { OnOk result ((v n : ℕ) → the_sectors self.new.written v n ≡ changed_by (puts volume.0 sector.0 content.now) (the_sectors self.old.written) v n) }
     {
         let content = Box::new(heap, *content)?;
-        match self.written.get_mut(&volume.0) {
-            Some(written) => {
-                written.insert(sector.0, content)?;
-            }
-            None => {
-                let mut written = BTreeMap::new(heap);
-                written.insert(sector.0, content)?;
-                self.written.insert(volume.0, written)?;
-            }
-        }
+        let written = self
+            .written
+            .entry(volume.0)?
+            .or_insert_with(|| BTreeMap::new(heap));
+        written.insert(sector.0, content)?;
         Ok(())
     }
 
