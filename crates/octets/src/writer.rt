@@ -1,23 +1,41 @@
 // A message as bytes: its first byte, then numbers of 8 bytes each.
-ghost use Rattle.std.specs.Prelude.{◌+◌, ◌*◌, length, vec_len, ◌≡◌, ◌∷◌, ◌++◌, is_ok, IfOk, if◌then◌else◌};
+ghost use Rattle.std.specs.Prelude.{ℕ, ◌+◌, ◌*◌, length, vec_len, ◌≡◌, ◌∷◌, ◌++◌, is_ok, IfOk, if◌then◌else◌};
 ghost use Rattle.octets.specs.Numbers.{bytes_of, numbers_bytes};
 
 use std::alloc::{AllocError, Global};
 
-// Puts the number's 8 bytes behind what `out` holds.
-pub fn put_number(out: &mut Vec<u8>, n: u64) -> Result<(), AllocError>
-    ensures { out.new.items ≡ (if is_ok result then out.old.items ++ bytes_of 8 n else out.old.items) }
-{
-    let eight = n.to_be_bytes();
-    out.extend_from_slice(&eight)
+// A number of a fixed width.
+pub trait Number {
+    // how many bytes it has
+    ghost width: { ℕ };
+
+    ghost value: { Self → ℕ };
+
+    // Puts the number's bytes behind what `out` holds.
+    fn put(self, out: &mut Vec<u8>) -> Result<(), AllocError>
+        ensures { out.new.items ≡ (if is_ok result then out.old.items ++ bytes_of width (value self) else out.old.items) };
 }
 
-// Puts a length's 4 bytes behind what `out` holds.
-pub fn put_length(out: &mut Vec<u8>, n: u32) -> Result<(), AllocError>
-    ensures { out.new.items ≡ (if is_ok result then out.old.items ++ bytes_of 4 n else out.old.items) }
-{
-    let four = n.to_be_bytes();
-    out.extend_from_slice(&four)
+impl Number for u64 {
+    ghost width = { 8 };
+
+    ghost value = { λ n. n };
+
+    fn put(self, out: &mut Vec<u8>) -> Result<(), AllocError> {
+        let eight = self.to_be_bytes();
+        out.extend_from_slice(&eight)
+    }
+}
+
+impl Number for u32 {
+    ghost width = { 4 };
+
+    ghost value = { λ n. n };
+
+    fn put(self, out: &mut Vec<u8>) -> Result<(), AllocError> {
+        let four = self.to_be_bytes();
+        out.extend_from_slice(&four)
+    }
 }
 
 // A message of a first byte and numbers.
@@ -28,7 +46,7 @@ pub fn message(heap: Global, first: u8, numbers: &[u64]) -> Result<Vec<u8>, Allo
     let mut out = Vec::new(heap);
     out.push(first)?;
     for n in numbers {
-        put_number(&mut out, *n)?;
+        n.put(&mut out)?;
     }
     Ok(out)
 }
