@@ -50,7 +50,7 @@ impl OnePlace {
         ensures { result ≡ read_at (needed (the_call call.now)) (the_store self.now).sector }
     {
         match needs(call) {
-            Some((volume, sector)) => self.sectors.read(volume, sector),
+            Some(at) => self.sectors.read(at),
             None => BLANK_SECTOR,
         }
     }
@@ -60,9 +60,7 @@ impl OnePlace {
         ensures { OnOk result (Keeps self.old (the_change change.entry) self.new) }
     {
         match change {
-            Some(Change::Put(volume, sector, content)) => {
-                self.sectors.put(heap, volume, sector, content)
-            }
+            Some(Change::Put(at, content)) => self.sectors.put(heap, at, content),
             Some(Change::Forget(volume)) => {
                 self.sectors.forget(volume);
                 Ok(())

@@ -29,11 +29,11 @@ impl Sectors {
     }
 
     #[tactic(auto, unfolding(disks::specs::Device::zeros))]
-    pub(crate) fn read(&self, volume: Volume, sector: Sector) -> [u8; SECTOR_BYTES]
-        ensures { result ≡ the_sectors self.now.written volume.0 sector.0 }
+    pub(crate) fn read(&self, at: Address) -> [u8; SECTOR_BYTES]
+        ensures { result ≡ the_sectors self.now.written at.volume.0 at.sector.0 }
     {
-        match self.written.get(&volume.0) {
-            Some(written) => read_of(written, sector),
+        match self.written.get(&at.volume.0) {
+            Some(written) => read_of(written, at.sector),
             None => BLANK_SECTOR,
         }
     }
@@ -42,18 +42,17 @@ impl Sectors {
     pub(crate) fn put(
         &mut self,
         heap: Global,
-        volume: Volume,
-        sector: Sector,
+        at: Address,
         content: &[u8; SECTOR_BYTES],
     ) -> Result<(), AllocError>
-        ensures { OnOk result ((v n : ℕ) → the_sectors self.new.written v n ≡ changed_by (puts volume.0 sector.0 content.now) (the_sectors self.old.written) v n) }
+        ensures { OnOk result ((v n : ℕ) → the_sectors self.new.written v n ≡ changed_by (puts at.volume.0 at.sector.0 content.now) (the_sectors self.old.written) v n) }
     {
         let content = Box::new(heap, *content)?;
         let written = self
             .written
-            .entry(volume.0)?
+            .entry(at.volume.0)?
             .or_insert_with(|| BTreeMap::new(heap));
-        written.insert(sector.0, content)?;
+        written.insert(at.sector.0, content)?;
         Ok(())
     }
 

@@ -135,7 +135,7 @@ the_service v = record { next = v.next; heads = vec_items v.heads; weight = v.we
 
 abbrev pub the_change : Option Change → Changed
 the_change None = keeps
-the_change (Some (typed.Put v n b)) = puts v.0 n.0 b.now
+the_change (Some (typed.Put a b)) = puts a.volume.0 a.sector.0 b.now
 the_change (Some (typed.Forget v)) = forgets v.0
 
 abbrev pub the_served : Outcome → Volumes → Served

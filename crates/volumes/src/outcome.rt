@@ -6,7 +6,7 @@ use wire::number::*;
 // What becomes of sectors.
 #[derive(Clone, Copy)]
 pub enum Change<'a> {
-    Put(Volume, Sector, &'a [u8; SECTOR_BYTES]),
+    Put(Address, &'a [u8; SECTOR_BYTES]),
     // the volume is gone, and all its sectors
     Forget(Volume),
 }

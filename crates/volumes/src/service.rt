@@ -24,7 +24,7 @@ use wire::refusal::Refusal;
 const MOST_VOLUMES: usize = 4096;
 
 // The largest size of a volume, 2^40.
-const MOST_SECTORS: u64 = 1_099_511_627_776;
+const MOST_SIZE: Size = Size(1_099_511_627_776);
 
 // Numbers and tokens stay below 2^62.
 const LIMIT: u64 = 4_611_686_018_427_387_904;
@@ -89,12 +89,21 @@ fn tells(answer: Answer<'_>) -> Outcome<'_>
     }
 }
 
-// The head of a volume that is used under its present token, and where it stands.
-fn hold(heads: &[Head], volume: Volume, token: Token) -> Result<(usize, Head), Refusal>
-    ensures { MatchResult result (λ p. Holds volume.0 token.0 heads.now p.0 p.1) (λ e. HeldBack volume.0 token.0 heads.now (refusal_number e)) }
+fn address(hold: Hold, sector: Sector) -> Address
+    ensures { result ≡ record { volume = hold.volume; sector = sector } }
 {
-    let (at, head) = find(heads, volume)?;
-    if token == Token(0) || token != head.token {
+    Address {
+        volume: hold.volume,
+        sector,
+    }
+}
+
+// The head of a volume that is used under its present token, and where it stands.
+fn held(heads: &[Head], hold: Hold) -> Result<(usize, Head), Refusal>
+    ensures { MatchResult result (λ p. Holds hold.volume.0 hold.token.0 heads.now p.0 p.1) (λ e. HeldBack hold.volume.0 hold.token.0 heads.now (refusal_number e)) }
+{
+    let (at, head) = find(heads, hold.volume)?;
+    if hold.token == Token(0) || hold.token != head.token {
         return Err(Refusal::OldToken);
     }
     Ok((at, head))
@@ -104,7 +113,7 @@ impl Volumes {
     fn make<'a>(&mut self, size: Size) -> Result<Outcome<'a>, Refusal>
         ensures { DoesAs (makes_head self.old.room size.0) self.old result self.new }
     {
-        if size.0 == 0 || size.0 > MOST_SECTORS {
+        if size == Size(0) || size > MOST_SIZE {
             return Err(Refusal::Malformed);
         }
         if self.heads.len() >= MOST_VOLUMES || self.next >= LIMIT {
@@ -139,14 +148,13 @@ impl Volumes {
 
     fn read<'a>(
         &mut self,
-        volume: Volume,
-        token: Token,
+        hold: Hold,
         sector: Sector,
         read: &'a [u8; SECTOR_BYTES],
     ) -> Result<Outcome<'a>, Refusal>
-        ensures { DoesAs (reads_volume volume.0 token.0 sector.0 read.now) self.old result self.new }
+        ensures { DoesAs (reads_volume hold.volume.0 hold.token.0 sector.0 read.now) self.old result self.new }
     {
-        let (_, head) = hold(self.heads.as_slice(), volume, token)?;
+        let (_, head) = held(self.heads.as_slice(), hold)?;
         if sector.0 >= head.size.0 {
             return Err(Refusal::Malformed);
         }
@@ -156,15 +164,14 @@ impl Volumes {
     // `read` is what the sector holds before.
     fn write<'a>(
         &mut self,
-        volume: Volume,
-        token: Token,
+        hold: Hold,
         sector: Sector,
         content: &'a [u8; SECTOR_BYTES],
         read: &[u8; SECTOR_BYTES],
     ) -> Result<Outcome<'a>, Refusal>
-        ensures { DoesAs (writes_volume self.old.room volume.0 token.0 sector.0 read.now content.now) self.old result self.new }
+        ensures { DoesAs (writes_volume self.old.room hold.volume.0 hold.token.0 sector.0 read.now content.now) self.old result self.new }
     {
-        let (at, head) = hold(self.heads.as_slice(), volume, token)?;
+        let (at, head) = held(self.heads.as_slice(), hold)?;
         if head.size.0 <= sector.0 {
             return Err(Refusal::Malformed);
         }
@@ -178,26 +185,26 @@ impl Volumes {
         self.heads[at] = Head { used, ..head };
         Ok(Outcome {
             answer: Answer::Yes,
-            change: Some(Change::Put(volume, sector, content)),
+            change: Some(Change::Put(address(hold, sector), content)),
         })
     }
 
-    fn sync<'a>(&mut self, volume: Volume, token: Token) -> Result<Outcome<'a>, Refusal>
-        ensures { DoesAs (syncs_volume volume.0 token.0) self.old result self.new }
+    fn sync<'a>(&mut self, hold: Hold) -> Result<Outcome<'a>, Refusal>
+        ensures { DoesAs (syncs_volume hold.volume.0 hold.token.0) self.old result self.new }
     {
-        hold(self.heads.as_slice(), volume, token)?;
+        held(self.heads.as_slice(), hold)?;
         Ok(tells(Answer::Yes))
     }
 
-    fn drop_volume<'a>(&mut self, volume: Volume, token: Token) -> Result<Outcome<'a>, Refusal>
-        ensures { DoesAs (drops_volume volume.0 token.0) self.old result self.new }
+    fn drop_volume<'a>(&mut self, hold: Hold) -> Result<Outcome<'a>, Refusal>
+        ensures { DoesAs (drops_volume hold.volume.0 hold.token.0) self.old result self.new }
     {
-        let (at, head) = hold(self.heads.as_slice(), volume, token)?;
+        let (at, head) = held(self.heads.as_slice(), hold)?;
         self.weight -= VOLUME_WEIGHT + head.used;
         self.heads.remove(at);
         Ok(Outcome {
             answer: Answer::Yes,
-            change: Some(Change::Forget(volume)),
+            change: Some(Change::Forget(hold.volume)),
         })
     }
 }
@@ -247,13 +254,11 @@ impl Volumes {
         match call {
             Call::Make(size) => self.make(size),
             Call::Attach(volume) => self.attach(volume),
-            Call::Read(volume, token, sector) => self.read(volume, token, sector, read),
-            Call::Write(volume, token, sector, content) => self.write(
-                volume, token, sector, content, read,
-            ),
-            Call::Sync(volume, token) => self.sync(volume, token),
-            Call::Drop(volume, token) => self.drop_volume(volume, token),
-            Call::Picture(_, _) => self.lacks(),
+            Call::Read(hold, sector) => self.read(hold, sector, read),
+            Call::Write(hold, sector, content) => self.write(hold, sector, content, read),
+            Call::Sync(hold) => self.sync(hold),
+            Call::Drop(hold) => self.drop_volume(hold),
+            Call::Picture(_) => self.lacks(),
             Call::Copy(_) => self.lacks(),
             Call::DropPicture(_) => self.lacks(),
         }
@@ -274,12 +279,11 @@ impl Volumes {
 }
 
 // The sector that must be read before a call is executed.
-pub fn needs(call: &Call) -> Option<(Volume, Sector)>
+pub fn needs(call: &Call) -> Option<Address>
     ensures { option_map the_place result ≡ needed (the_call call.now) }
 {
     match *call {
-        Call::Read(volume, _, sector) => Some((volume, sector)),
-        Call::Write(volume, _, sector, _) => Some((volume, sector)),
+        Call::Read(hold, sector) | Call::Write(hold, sector, _) => Some(address(hold, sector)),
         _ => None,
     }
 }
