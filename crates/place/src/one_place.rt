@@ -3,7 +3,6 @@ ghost use Rattle.std.specs.Prelude.{◌≡◌, ◌-◌, ◌/◌, IfOk, OnOk};
 ghost use Rattle.volumes.specs.Simulation.{blank_store, needed, read_at};
 ghost use Rattle.volumes.specs.Service.{the_change};
 ghost use Rattle.wire.specs.Calls.{the_call, decoded};
-ghost use Rattle.wire.specs.declared.answer.Answer.TheVariants.{Refused};
 ghost use Rattle.wire.specs.Kinds.{is_built};
 ghost use Rattle.place.specs.Places.{the_store, Keeps, Played, Answered};
 
@@ -41,9 +40,7 @@ impl OnePlace {
     {
         self.volumes.weight()
     }
-}
 
-impl OnePlace {
     // What the sector holds that a call needs.
     #[tactic(auto, unfolding(disks::specs::Device::zeros))]
     pub fn fetch(&self, call: &Call) -> [u8; SECTOR_BYTES]
@@ -84,15 +81,7 @@ impl OnePlace {
         self.keep(heap, outcome.change)?;
         Ok(answer)
     }
-}
 
-fn refuse<'a>(refusal: Refusal) -> Answer<'a>
-    ensures { result ≡ Refused refusal }
-{
-    Answer::Refused(refusal)
-}
-
-impl OnePlace {
     // What bytes that a customer sent are answered, as bytes.
     pub fn answer(&mut self, heap: Global, bytes: &[u8]) -> Result<Vec<u8>, AllocError>
         ensures { IfOk result (λ v. Answered self.old (decoded is_built bytes.now) v.items self.new) }
@@ -103,7 +92,7 @@ impl OnePlace {
                 let read = self.fetch(&call);
                 self.play(heap, call, &read)
             }
-            Err(refusal) => refuse(refusal).encode(heap),
+            Err(refusal) => Answer::Refused(refusal).encode(heap),
         }
     }
 }

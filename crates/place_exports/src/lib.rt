@@ -10,7 +10,8 @@ use wire::frame::{Frame, FrameError};
 use wire::number::Customer;
 
 // Plays the frames of `calls` one after the other on blank volumes. For each the answer's frame follows, with what all weigh then in
-// the place of the customer's number. Says how many bytes are in `out`: 0 where they don't fit or memory fails.
+// the place of the customer's number. Says how many bytes are in `out`: 0 where they don't fit or memory fails, since C takes a number
+// and no Option.
 #[unsafe(no_mangle)]
 pub extern "C" fn place_play(heap: Global, sectors: u64, calls: &[u8], out: &mut [u8]) -> usize
     ensures { result ≤ length out.new }
