@@ -110,6 +110,7 @@ fn held(heads: &[Head], hold: Hold) -> Result<(usize, Head), Refusal>
 }
 
 impl Volumes {
+    #[tactic(auto, using(crate::proofs::Weighing::weighs_push))]
     fn make<'a>(&mut self, size: Size) -> Result<Outcome<'a>, Refusal>
         ensures { DoesAs (makes_head self.old.room size.0) self.old result self.new }
     {
@@ -134,6 +135,7 @@ impl Volumes {
         Ok(tells(Answer::Number(number)))
     }
 
+    #[tactic(auto, using(crate::proofs::Weighing::counted_same))]
     fn attach<'a>(&mut self, volume: Volume) -> Result<Outcome<'a>, Refusal>
         ensures { DoesAs (attaches_volume volume.0) self.old result self.new }
     {
@@ -162,6 +164,7 @@ impl Volumes {
     }
 
     // `read` is what the sector holds before.
+    #[tactic(auto, using(crate::proofs::Weighing::found_weighs, crate::proofs::Weighing::counted_put, crate::proofs::Weighing::recount_fits))]
     fn write<'a>(
         &mut self,
         hold: Hold,
@@ -196,6 +199,7 @@ impl Volumes {
         Ok(tells(Answer::Yes))
     }
 
+    #[tactic(auto, using(crate::proofs::Weighing::found_weighs, crate::proofs::Weighing::counted_removed))]
     fn drop_volume<'a>(&mut self, hold: Hold) -> Result<Outcome<'a>, Refusal>
         ensures { DoesAs (drops_volume hold.volume.0 hold.token.0) self.old result self.new }
     {
@@ -217,6 +221,7 @@ fn overfills(was: bool, now: bool, weight: u64, room: u64) -> bool
 }
 
 // How many sectors of a volume hold something, where one of them was blank or not, and is now.
+#[tactic(auto, unfolding(disks::specs::Disks::one))]
 fn recounted(used: u64, was: bool, now: bool) -> u64
     requires { used < 2 ^ 63 }
     ensures { result ≡ recount was now used }
