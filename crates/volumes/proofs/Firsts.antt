@@ -1,5 +1,5 @@
 -- The first element that passes a test, by where it stands.
-use Rattle.std.proofs.Common.{◌≡◌, ℕ, zero, suc, ◌+◌, Bool, true, false, cond, List, [], ◌∷◌, get_or, Some, None, Option, MatchOption, refl, ap, subst, arith}
+use Rattle.std.proofs.Common.{◌≡◌, ℕ, suc, ◌+◌, Bool, true, false, cond, List, [], ◌∷◌, get_or, Some, None, Option, MatchOption, refl, ap, subst, arith}
 use Rattle.std.specs.List.{position_from}
 use Rattle.disks.specs.Disks.{find, change}
 use Rattle.volumes.specs.Service.{without, First}

@@ -263,9 +263,7 @@ impl Volumes {
             Call::Write(hold, sector, content) => self.write(hold, sector, content, read),
             Call::Sync(hold) => self.sync(hold),
             Call::Drop(hold) => self.drop_volume(hold),
-            Call::Picture(_) => self.lacks(),
-            Call::Copy(_) => self.lacks(),
-            Call::DropPicture(_) => self.lacks(),
+            Call::Picture(_) | Call::Copy(_) | Call::DropPicture(_) => self.lacks(),
         }
     }
 

@@ -1,5 +1,4 @@
-use Rattle.std.proofs.Common.{◌≡◌, Some, sym, ◌∙◌, arith, rules}
-use Rattle.std.specs.List.{position_from}
+use Rattle.std.proofs.Common.{sym, ◌∙◌, arith}
 use Rattle.std.proofs.lemmas.Grind.{common_steps}
 use Rattle.volumes.specs.Service.{is_head, new_head}
 use Rattle.volumes.proofs.Firsts.{lies_nowhere, lies_at}
