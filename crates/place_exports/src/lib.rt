@@ -6,14 +6,12 @@ ghost use Rattle.std.specs.Prelude.{◌≤◌, length};
 
 use place::one_place::OnePlace;
 use std::alloc::Global;
-use wire::frame::{Frame, FrameError, Framed};
+use wire::frame::{Frame, FrameError};
 use wire::number::Customer;
 
-// What stands before a frame's body.
-const FRAME_HEAD: usize = 12;
-
 // Plays the frames of `calls` one after the other on blank volumes. For each the answer's frame follows, with what all weigh then in
-// the place of the customer's number. Says how many bytes are in `out`: 0 where they don't fit or memory fails.
+// the place of the customer's number. Says how many bytes are in `out`: 0 where they don't fit or memory fails, since C takes a number
+// and no Option.
 #[unsafe(no_mangle)]
 pub extern "C" fn place_play(heap: Global, sectors: u64, calls: &[u8], out: &mut [u8]) -> usize
     ensures { result ≤ length out.new }
@@ -34,18 +32,10 @@ pub extern "C" fn place_play(heap: Global, sectors: u64, calls: &[u8], out: &mut
 fn play_all(heap: Global, sectors: u64, calls: &[u8]) -> Result<Vec<u8>, FrameError> {
     let mut place = OnePlace::new(heap, sectors)?;
     let mut answers = Vec::new(heap);
-    let mut at: usize = 0;
-    for _ in 0..calls.len() {
-        let Some(rest) = calls.get(at..) else {
-            break;
-        };
-        let Framed::Whole(frame, _) = Frame::decode(rest) else {
-            break;
-        };
+    let mut left = calls;
+    while let Ok((frame, rest)) = Frame::decode(left) {
         play_one(heap, &mut place, frame.body, &mut answers)?;
-        at = at
-            .saturating_add(FRAME_HEAD)
-            .saturating_add(frame.body.len());
+        left = rest;
     }
     Ok(answers)
 }

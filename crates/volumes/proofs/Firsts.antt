@@ -1,71 +1,47 @@
--- The loop that looks for the first element that passes a test: after i that don't, what is left to look through is what is behind them.
-use Rattle.std.proofs.Common.{◌≡◌, ℕ, ◌+◌, ◌<◌, ◌≤◌, Bool, true, false, List, [], ◌∷◌, ◌++◌, length, get_or, take, drop, sym, refl, ap, ◌∙◌, append_assoc, add-one}
-use Rattle.std.proofs.lemmas.List.{take_more, drop_more, drop_all, set_split, get_or_default}
+-- The first element that passes a test, by where it stands.
+use Rattle.std.proofs.Common.{◌≡◌, ℕ, suc, ◌+◌, Bool, true, false, cond, List, [], ◌∷◌, get_or, Some, None, Option, MatchOption, refl, ap, subst, arith}
+use Rattle.std.specs.List.{position_from}
 use Rattle.disks.specs.Disks.{find, change}
 use Rattle.volumes.specs.Service.{without, First}
 
-pub record Passed {A : Type 0} (f : A → Bool) (xs : List A) (i : ℕ) : Type 0 where
-  pub found : find f xs ≡ find f (drop i xs)
-  pub changed : (g : A → A) → change f g xs ≡ take i xs ++ change f g (drop i xs)
-  pub removing : without f xs ≡ take i xs ++ without f (drop i xs)
+module _ {A : Type 0} (f : A → Bool) where
+  first_here : (x : A) (xs : List A) → f x ≡ true → First f (x ∷ xs) 0 x
+  unfolding find change without
+  first_here x xs e = record { at = omega arith; here = refl; found = rw e; changed = λ g. rw e; removing = rw e }
 
-module _ {A : Type 0} (f : A → Bool) (xs : List A) where
-  pub passed_none : Passed f xs 0
-  passed_none = record { found = refl; changed = λ g. refl; removing = refl }
+  first_later : (x y : A) (xs : List A) (i : ℕ) → f x ≡ false → First f xs i y → First f (x ∷ xs) (suc i) y
+  unfolding find change without
+  first_later x y xs i e p =
+      record {
+        at = omega (arith, p.at);
+        here = p.here;
+        found = rw e p.found;
+        changed = λ g. rw e (ap (λ ys. x ∷ ys) (p.changed g));
+        removing = rw e (ap (λ ys. x ∷ ys) p.removing);
+      }
 
-  module _ (i : ℕ) (d : A) (h : i < length xs) (p : Passed f xs i) where
-    abbrev x : A
-    x = get_or xs i d
+  -- where the list starts at k
+  abbrev pub Lies : (k : ℕ) → List A → A → Option ℕ → Type 0
+  Lies k xs d r = MatchOption r (find f xs ≡ []) (λ n. (i : ℕ) × (n ≡ i + k) × First f xs i (get_or xs i d))
 
-    abbrev rest : List A
-    rest = drop (i + 1) xs
-
-    find_no : f x ≡ false → find f (x ∷ rest) ≡ find f rest
-    unfolding find
-    find_no e = rw e
-
-    change_no : (g : A → A) → f x ≡ false → change f g (x ∷ rest) ≡ x ∷ change f g rest
-    unfolding change
-    change_no g e = rw e
-
-    without_no : f x ≡ false → without f (x ∷ rest) ≡ x ∷ without f rest
-    unfolding without
-    without_no e = rw e
-
-    -- one more in front of what is behind
-    moved : (ys : List A) → take i xs ++ (x ∷ ys) ≡ take (i + 1) xs ++ ys
-    moved ys = sym (append_assoc (take i xs) (x ∷ []) ys) ∙ ap (λ (zs : List A). zs ++ ys) (sym (take_more xs i d h))
-
-    pub passed_more : f x ≡ false → Passed f xs (i + 1)
-    passed_more e =
-        record {
-          found = p.found ∙ ap (find f) (drop_more xs i d h) ∙ find_no e;
-          changed = λ g. p.changed g ∙ ap (λ (ys : List A). take i xs ++ change f g ys) (drop_more xs i d h) ∙ ap (λ (ys : List A). take i xs ++ ys) (change_no g e) ∙ moved (change f g rest);
-          removing = p.removing ∙ ap (λ (ys : List A). take i xs ++ without f ys) (drop_more xs i d h) ∙ ap (λ (ys : List A). take i xs ++ ys) (without_no e) ∙ moved (without f rest);
-        }
-
-    find_yes : f x ≡ true → find f (x ∷ rest) ≡ x ∷ []
-    unfolding find
-    find_yes e = rw e
-
-    change_yes : (g : A → A) → f x ≡ true → change f g (x ∷ rest) ≡ g x ∷ rest
-    unfolding change
-    change_yes g e = rw e
-
-    without_yes : f x ≡ true → without f (x ∷ rest) ≡ rest
-    unfolding without
-    without_yes e = rw e
-
-    pub passed_first : f x ≡ true → First f xs i x
-    passed_first e =
-        record {
-          at = h;
-          here = get_or_default xs i x d h;
-          found = p.found ∙ ap (find f) (drop_more xs i d h) ∙ find_yes e;
-          changed = λ g. p.changed g ∙ ap (λ (ys : List A). take i xs ++ change f g ys) (drop_more xs i d h) ∙ ap (λ (ys : List A). take i xs ++ ys) (change_yes g e) ∙ ap (λ (k : ℕ). take i xs ++ (g x ∷ drop k xs)) (add-one i) ∙ sym (set_split xs i (g x) h);
-          removing = p.removing ∙ ap (λ (ys : List A). take i xs ++ without f ys) (drop_more xs i d h) ∙ ap (λ (ys : List A). take i xs ++ ys) (without_yes e) ∙ ap (λ (k : ℕ). take i xs ++ drop k xs) (add-one i);
-        }
-
-  pub passed_all : (i : ℕ) → length xs ≤ i → Passed f xs i → find f xs ≡ []
+  pub lies : (k : ℕ) (xs : List A) (d : A) → Lies k xs d (position_from f k xs)
   unfolding find
-  passed_all i h p = p.found ∙ ap (find f) (drop_all i xs h)
+  lies k [] d = refl
+  lies k (x ∷ xs) d = go (f x) refl (lies (k + 1) xs d)
+    where
+      go : (b : Bool) → f x ≡ b → Lies (k + 1) xs d (position_from f (k + 1) xs) → Lies k (x ∷ xs) d (cond b (Some k) (position_from f (k + 1) xs))
+      go true e ih = (0, omega arith, first_here x xs e)
+      go false e ih = later (position_from f (k + 1) xs) ih
+        where
+          later : (r : Option ℕ) → Lies (k + 1) xs d r → Lies k (x ∷ xs) d r
+          later None h = rw e h
+          later (Some n) h = (suc h.0, omega (arith, h.1), first_later x (get_or xs h.0 d) xs h.0 e h.2)
+
+  pub lies_nowhere : (xs : List A) (d : A) → position_from f 0 xs ≡ None → find f xs ≡ []
+  lies_nowhere xs d e = subst (Lies 0 xs d) e (lies 0 xs d)
+
+  pub lies_at : (xs : List A) (i : ℕ) (d : A) → position_from f 0 xs ≡ Some i → First f xs i (get_or xs i d)
+  lies_at xs i d e =
+      let p = subst (Lies 0 xs d) e (lies 0 xs d) in
+      let same : p.0 ≡ i = omega (arith, p.1) in
+      subst (λ (k : ℕ). First f xs k (get_or xs k d)) same p.2

@@ -1,4 +1,3 @@
-pub mod Zeros
 pub mod Firsts
 pub mod Weighing
 pub mod Counts

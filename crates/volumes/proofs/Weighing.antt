@@ -27,12 +27,12 @@ weighs_removed (x ∷ hs) zero h l e = omega (arith, ap (λ (y : Head). y.used) 
 weighs_removed (x ∷ hs) (suc i) h l e = omega (arith, weighs_removed hs i h (omega arith) e)
 
 -- A sector that changes keeps the weight within the room, unless it is one that overfills.
-pub recount-within : (was now : Bool) (used weight room : ℕ) → used ≤ weight → weight ≤ room → (was && not now && ltb room (weight + 1)) ≡ false → weight - used + recount was now used ≤ room
+pub recount_fits : (was now : Bool) (used weight room : ℕ) → used ≤ weight → weight ≤ room → (was && not now && ltb room (weight + 1)) ≡ false → weight - used + recount was now used ≤ room
 unfolding one
-recount-within true true used weight room h k e = omega arith
-recount-within true false used weight room h k e = let l : weight < room = grind (arith, nat_tests) in omega arith
-recount-within false true used weight room h k e = omega arith
-recount-within false false used weight room h k e = omega arith
+recount_fits true true used weight room h k e = omega arith
+recount_fits true false used weight room h k e = let l : weight < room = grind (arith, nat_tests) in omega arith
+recount_fits false true used weight room h k e = omega arith
+recount_fits false false used weight room h k e = omega arith
 
 -- The same facts where a head was found in a copy of the list, as weight ≡ weighs ys has it.
 module _ {f : Head → Bool} {xs ys : List Head} {i : ℕ} {h : Head} (weight : ℕ) (same : xs ≡ ys) (p : First f xs i h) (counted : weight ≡ weighs ys) where
@@ -42,8 +42,12 @@ module _ {f : Head → Bool} {xs ys : List Head} {i : ℕ} {h : Head} (weight : 
   pub found_weighs : 64 + h.used ≤ weight
   found_weighs = omega (arith, weighs_at ys i h here.0 here.1)
 
-  pub counted-set : (k : Head) → weight - h.used + k.used ≡ weighs (set ys i k)
-  counted-set k = omega (arith, weighs-set ys i h k here.0 here.1, found_weighs)
+  pub counted_put : (k : Head) → weight - h.used + k.used ≡ weighs (set ys i k)
+  counted_put k = omega (arith, weighs-set ys i h k here.0 here.1, found_weighs)
+
+  -- nothing that weighs anything changed
+  pub counted_same : (k : Head) → k.used ≡ h.used → weight ≡ weighs (set ys i k)
+  counted_same k e = omega (arith, counted_put k, found_weighs, e)
 
   pub counted_removed : weight - (64 + h.used) ≡ weighs (remove ys i)
   counted_removed = omega (arith, weighs_removed ys i h here.0 here.1)

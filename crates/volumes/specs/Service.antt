@@ -1,9 +1,11 @@
 -- What each call answers and changes, over heads; sectors are handed in and out. Refusals are tested in the order of the meaning.
 -- Assumes nothing.
-use Rattle.std.specs.Prelude.{◌≡◌, ℕ, ◌+◌, ◌-◌, ◌<◌, Bool, cond, not, ◌&&◌, ◌||◌, List, [], ◌∷◌, ◌++◌, length, vec_items, ◌==◌, nat_le, nat_lt, slice_index_or, slice_set}
+use Rattle.std.specs.Prelude.{◌≡◌, ℕ, ◌+◌, ◌-◌, ◌<◌, Bool, cond, not, ◌&&◌, ◌||◌, List, [], ◌∷◌, ◌++◌, length, Some, None, Ok, Err, Option, Result, vec_items, ◌==◌, nat_le, nat_lt, slice_index_or, slice_set}
 use Rattle.disks.specs.Disks.{find, change, all_zero, one, Call, Make, Attach, Read, Write, Sync, Picture', Copy, Drop, DropPicture, Reply, No, Yes, Num, Token, Sector, Full}
 use Rattle.std.specs.List.{remove}
 use Rattle.wire.specs.Answers.{the_reply}
+use Rattle.wire.specs.declared.answer.Answer.TheVariants.{Refused}
+use Rattle.wire.specs.declared.refusal.Refusal.{Refusal}
 use Rattle.volumes.specs.declared.head.Head.{Head}
 use Rattle.volumes.specs.declared.outcome.Change.{Change}
 use Rattle.volumes.specs.declared.outcome.Change.TheVariants as typed
@@ -131,10 +133,10 @@ serves room (DropPicture p) b s = lacks_call s
 abbrev pub the_service : Volumes → Service
 the_service v = record { next = v.next; heads = vec_items v.heads; weight = v.weight }
 
-abbrev pub the_change : Change → Changed
-the_change typed.Nothing = keeps
-the_change (typed.Put v n b) = puts v.0 n.0 b.now
-the_change (typed.Forget v) = forgets v.0
+abbrev pub the_change : Option Change → Changed
+the_change None = keeps
+the_change (Some (typed.Put a b)) = puts a.volume.0 a.sector.0 b.now
+the_change (Some (typed.Forget v)) = forgets v.0
 
 abbrev pub the_served : Outcome → Volumes → Served
 the_served o v = record { reply = the_reply o.answer; service = the_service v; change = the_change o.change }
@@ -146,3 +148,12 @@ pub record Holds (v t : ℕ) (hs : List Head) (i : ℕ) (h : Head) : Type 0 wher
 
 abbrev pub HeldBack : (v t : ℕ) → List Head → ℕ → Type 0
 HeldBack v t hs n = (f : Head → Served) (s : Service) → held t (find (is_head v) hs) f s ≡ says (No n) s
+
+-- a refusal is an answer that changes nothing
+abbrev pub or_refused : Result Outcome Refusal → Outcome
+or_refused (Ok o) = o
+or_refused (Err e) = record { answer = Refused e; change = None }
+
+-- the code did what f says, and left the room as it was
+abbrev pub DoesAs : (Service → Served) → Volumes → Result Outcome Refusal → Volumes → Type 0
+DoesAs f v r w = (the_served (or_refused r) w ≡ f (the_service v)) × (w.room ≡ v.room)

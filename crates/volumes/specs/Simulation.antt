@@ -4,8 +4,7 @@ use Rattle.std.specs.Prelude.{◌≡◌, ℕ, suc, ◌-◌, ◌/◌, ◌≤◌, 
 use Rattle.disks.specs.Device.{zeros, shown, all_bytes}
 use Rattle.disks.specs.Disks.{Volume, State, blank, used, Call, Make, Attach, Read, Write, Sync, Picture', Copy, Drop, DropPicture, Answers, core}
 use Rattle.disks.specs.Promise.{core_room}
-use Rattle.wire.specs.declared.number.Volume.{Volume as Number}
-use Rattle.wire.specs.declared.number.Sector.{Sector}
+use Rattle.wire.specs.declared.number.Address.{Address}
 use Rattle.volumes.specs.declared.head.Head.{Head}
 use Rattle.volumes.specs.Weights.{weighs}
 use Rattle.volumes.specs.Service.{Service, blank_service, Changed, keeps, puts, forgets, Served, serves}
@@ -102,8 +101,8 @@ pub record ServesTheMeaning : Type 0 where
   pub steps : StepsAlike
 
 -- what the code's value stands for
-abbrev pub the_place : (Number × Sector) → Place
-the_place p = record { volume = p.0.0; sector = p.1.0 }
+abbrev pub the_place : Address → Place
+the_place a = record { volume = a.volume.0; sector = a.sector.0 }
 
 -- the room is what the promise has for the core
 abbrev pub RoomIsCore : Type 0

@@ -1,12 +1,12 @@
-// What a call comes to: an answer, and what becomes of sectors.
+// What a call comes to: an answer, and what becomes of sectors, if any change.
 use octets::SECTOR_BYTES;
 use wire::answer::Answer;
 use wire::number::*;
 
+// What becomes of sectors.
 #[derive(Clone, Copy)]
 pub enum Change<'a> {
-    Nothing,
-    Put(Volume, Sector, &'a [u8; SECTOR_BYTES]),
+    Put(Address, &'a [u8; SECTOR_BYTES]),
     // the volume is gone, and all its sectors
     Forget(Volume),
 }
@@ -14,5 +14,5 @@ pub enum Change<'a> {
 #[derive(Clone, Copy)]
 pub struct Outcome<'a> {
     pub answer: Answer<'a>,
-    pub change: Change<'a>,
+    pub change: Option<Change<'a>>,
 }

@@ -1,13 +1,13 @@
 // What each call does.
-ghost use Rattle.std.specs.Prelude.{◌≡◌, ◌+◌, ◌-◌, ◌/◌, ◌^◌, ◌<◌, not, ◌&&◌, [], IfOk, MatchOption, MatchResult, nat_lt};
+ghost use Rattle.std.specs.Prelude.{◌≡◌, ◌+◌, ◌-◌, ◌/◌, ◌^◌, ◌<◌, not, ◌&&◌, [], None, IfOk, MatchResult, nat_lt};
 ghost use Rattle.disks.specs.Disks.{find};
 ghost use Rattle.wire.specs.Refusals.{refusal_number};
-ghost use Rattle.wire.specs.declared.answer.Answer.TheVariants.{Refused};
-ghost use Rattle.volumes.specs.Service.{blank_service, the_service, the_served, First, Holds, HeldBack, is_head, makes_head, attaches_volume, reads_volume, writes_volume, syncs_volume, drops_volume, recount, lacks_call, serves};
+ghost use Rattle.wire.specs.declared.refusal.Refusal.TheVariants.{Missing};
+ghost use Rattle.volumes.specs.Service.{blank_service, the_service, the_served, First, Holds, HeldBack, is_head, makes_head, attaches_volume, reads_volume, writes_volume, syncs_volume, drops_volume, recount, lacks_call, serves, DoesAs};
 ghost use Rattle.volumes.specs.Simulation.{needed, the_place, ServesTheMeaning, RoomIsCore};
 ghost use Rattle.wire.specs.Calls.{the_call};
 ghost use Rattle.std.specs.Option.{option_map};
-ghost use Rattle.volumes.specs.declared.outcome.Change.TheVariants.{Nothing};
+ghost use Rattle.std.specs.List.{position_from};
 
 use crate::head::Head;
 use crate::outcome::*;
@@ -24,7 +24,7 @@ use wire::refusal::Refusal;
 const MOST_VOLUMES: usize = 4096;
 
 // The largest size of a volume, 2^40.
-const MOST_SECTORS: u64 = 1_099_511_627_776;
+const MOST_SIZE: Size = Size(1_099_511_627_776);
 
 // Numbers and tokens stay below 2^62.
 const LIMIT: u64 = 4_611_686_018_427_387_904;
@@ -63,60 +63,65 @@ impl Volumes {
     }
 }
 
-// Where a volume's head stands among heads, and the head.
-fn find(heads: &[Head], volume: Volume) -> Option<(usize, Head)>
-    ensures { MatchOption result (find (is_head volume.0) heads.now ≡ []) (λ p. First (is_head volume.0) heads.now p.0 p.1) }
+// Where a volume's head stands among heads. They are a list and not a map, since a call must not fail for want of memory, and a map
+// takes memory each time a volume is made.
+fn position(heads: &[Head], volume: Volume) -> Option<usize>
+    ensures { result ≡ position_from (is_head volume.0) 0 heads.now }
 {
-    for (i, head) in heads.iter().enumerate() {
-        if head.number.0 == volume.0 {
-            return Some((i, *head));
-        }
-    }
-    None
+    heads.iter().position(|head| head.number == volume)
+}
+
+// The same, and the head.
+fn find(heads: &[Head], volume: Volume) -> Result<(usize, Head), Refusal>
+    ensures { MatchResult result (λ p. First (is_head volume.0) heads.now p.0 p.1) (λ e. (e ≡ Missing) × (find (is_head volume.0) heads.now ≡ [])) }
+{
+    let at = position(heads, volume).ok_or(Refusal::Missing)?;
+    Ok((at, heads[at]))
 }
 
 // An answer that changes nothing.
 fn tells(answer: Answer<'_>) -> Outcome<'_>
-    ensures { result ≡ record { answer = answer.entry; change = Nothing } }
+    ensures { result ≡ record { answer = answer.entry; change = None } }
 {
     Outcome {
         answer,
-        change: Change::Nothing,
+        change: None,
     }
 }
 
-fn refuses<'a>(refusal: Refusal) -> Outcome<'a>
-    ensures { result ≡ record { answer = Refused refusal; change = Nothing } }
+fn address(hold: Hold, sector: Sector) -> Address
+    ensures { result ≡ record { volume = hold.volume; sector = sector } }
 {
-    tells(Answer::Refused(refusal))
+    Address {
+        volume: hold.volume,
+        sector,
+    }
 }
 
 // The head of a volume that is used under its present token, and where it stands.
-fn hold(heads: &[Head], volume: Volume, token: Token) -> Result<(usize, Head), Refusal>
-    ensures { MatchResult result (λ p. Holds volume.0 token.0 heads.now p.0 p.1) (λ e. HeldBack volume.0 token.0 heads.now (refusal_number e)) }
+fn held(heads: &[Head], hold: Hold) -> Result<(usize, Head), Refusal>
+    ensures { MatchResult result (λ p. Holds hold.volume.0 hold.token.0 heads.now p.0 p.1) (λ e. HeldBack hold.volume.0 hold.token.0 heads.now (refusal_number e)) }
 {
-    let Some((at, head)) = find(heads, volume) else {
-        return Err(Refusal::Missing);
-    };
-    if token.0 == 0 || token.0 != head.token.0 {
+    let (at, head) = find(heads, hold.volume)?;
+    if hold.token == Token(0) || hold.token != head.token {
         return Err(Refusal::OldToken);
     }
     Ok((at, head))
 }
 
 impl Volumes {
-    fn make<'a>(&mut self, size: Size) -> Outcome<'a>
-        ensures served { the_served result self.new ≡ makes_head self.old.room size.0 (the_service self.old) }
-        ensures same { self.new.room ≡ self.old.room }
+    #[tactic(auto, using(crate::proofs::Weighing::weighs_push))]
+    fn make<'a>(&mut self, size: Size) -> Result<Outcome<'a>, Refusal>
+        ensures { DoesAs (makes_head self.old.room size.0) self.old result self.new }
     {
-        if size.0 == 0 || size.0 > MOST_SECTORS {
-            return refuses(Refusal::Malformed);
+        if size == Size(0) || size > MOST_SIZE {
+            return Err(Refusal::Malformed);
         }
         if self.heads.len() >= MOST_VOLUMES || self.next >= LIMIT {
-            return refuses(Refusal::UsedUp);
+            return Err(Refusal::UsedUp);
         }
         if self.room - self.weight < VOLUME_WEIGHT {
-            return tells(Answer::Full);
+            return Ok(tells(Answer::Full));
         }
         let number = self.next;
         self.heads.push_reserved(Head {
@@ -127,101 +132,84 @@ impl Volumes {
         });
         self.next = number + 1;
         self.weight += VOLUME_WEIGHT;
-        tells(Answer::Number(number))
+        Ok(tells(Answer::Number(number)))
     }
 
-    fn attach<'a>(&mut self, volume: Volume) -> Outcome<'a>
-        ensures served { the_served result self.new ≡ attaches_volume volume.0 (the_service self.old) }
-        ensures same { self.new.room ≡ self.old.room }
+    #[tactic(auto, using(crate::proofs::Weighing::counted_same))]
+    fn attach<'a>(&mut self, volume: Volume) -> Result<Outcome<'a>, Refusal>
+        ensures { DoesAs (attaches_volume volume.0) self.old result self.new }
     {
-        let Some((at, head)) = find(self.heads.as_slice(), volume) else {
-            return refuses(Refusal::Missing);
-        };
+        let (at, head) = find(self.heads.as_slice(), volume)?;
         if head.token.0 >= LIMIT - 1 {
-            return refuses(Refusal::UsedUp);
+            return Err(Refusal::UsedUp);
         }
         let token = Token(head.token.0 + 1);
         self.heads[at] = Head { token, ..head };
-        tells(Answer::Token(token, head.size))
+        Ok(tells(Answer::Token(token, head.size)))
     }
 
     fn read<'a>(
         &mut self,
-        volume: Volume,
-        token: Token,
+        hold: Hold,
         sector: Sector,
         read: &'a [u8; SECTOR_BYTES],
-    ) -> Outcome<'a>
-        ensures served { the_served result self.new ≡ reads_volume volume.0 token.0 sector.0 read.now (the_service self.old) }
-        ensures same { self.new.room ≡ self.old.room }
+    ) -> Result<Outcome<'a>, Refusal>
+        ensures { DoesAs (reads_volume hold.volume.0 hold.token.0 sector.0 read.now) self.old result self.new }
     {
-        let head = match hold(self.heads.as_slice(), volume, token) {
-            Ok((_, head)) => head,
-            Err(refusal) => return refuses(refusal),
-        };
+        let (_, head) = held(self.heads.as_slice(), hold)?;
         if sector.0 >= head.size.0 {
-            return refuses(Refusal::Malformed);
+            return Err(Refusal::Malformed);
         }
-        tells(Answer::Sector(read))
+        Ok(tells(Answer::Sector(read)))
     }
 
     // `read` is what the sector holds before.
+    #[tactic(auto, using(crate::proofs::Weighing::found_weighs, crate::proofs::Weighing::counted_put, crate::proofs::Weighing::recount_fits))]
     fn write<'a>(
         &mut self,
-        volume: Volume,
-        token: Token,
+        hold: Hold,
         sector: Sector,
         content: &'a [u8; SECTOR_BYTES],
         read: &[u8; SECTOR_BYTES],
-    ) -> Outcome<'a>
-        ensures served { the_served result self.new ≡ writes_volume self.old.room volume.0 token.0 sector.0 read.now content.now (the_service self.old) }
-        ensures same { self.new.room ≡ self.old.room }
+    ) -> Result<Outcome<'a>, Refusal>
+        ensures { DoesAs (writes_volume self.old.room hold.volume.0 hold.token.0 sector.0 read.now content.now) self.old result self.new }
     {
-        let (at, head) = match hold(self.heads.as_slice(), volume, token) {
-            Ok(held) => held,
-            Err(refusal) => return refuses(refusal),
-        };
+        let (at, head) = held(self.heads.as_slice(), hold)?;
         if head.size.0 <= sector.0 {
-            return refuses(Refusal::Malformed);
+            return Err(Refusal::Malformed);
         }
         let was = is_blank(read);
         let now = is_blank(content);
         if overfills(was, now, self.weight, self.room) {
-            return tells(Answer::Full);
+            return Ok(tells(Answer::Full));
         }
         let used = recounted(head.used, was, now);
         self.weight = self.weight - head.used + used;
         self.heads[at] = Head { used, ..head };
-        Outcome {
+        Ok(Outcome {
             answer: Answer::Yes,
-            change: Change::Put(volume, sector, content),
-        }
+            change: Some(Change::Put(address(hold, sector), content)),
+        })
     }
 
-    fn sync<'a>(&mut self, volume: Volume, token: Token) -> Outcome<'a>
-        ensures served { the_served result self.new ≡ syncs_volume volume.0 token.0 (the_service self.old) }
-        ensures same { self.new.room ≡ self.old.room }
+    fn sync<'a>(&mut self, hold: Hold) -> Result<Outcome<'a>, Refusal>
+        ensures { DoesAs (syncs_volume hold.volume.0 hold.token.0) self.old result self.new }
     {
-        match hold(self.heads.as_slice(), volume, token) {
-            Ok(_) => tells(Answer::Yes),
-            Err(refusal) => refuses(refusal),
-        }
+        held(self.heads.as_slice(), hold)?;
+        Ok(tells(Answer::Yes))
     }
 
-    fn drop_volume<'a>(&mut self, volume: Volume, token: Token) -> Outcome<'a>
-        ensures served { the_served result self.new ≡ drops_volume volume.0 token.0 (the_service self.old) }
-        ensures same { self.new.room ≡ self.old.room }
+    #[tactic(auto, using(crate::proofs::Weighing::found_weighs, crate::proofs::Weighing::counted_removed))]
+    fn drop_volume<'a>(&mut self, hold: Hold) -> Result<Outcome<'a>, Refusal>
+        ensures { DoesAs (drops_volume hold.volume.0 hold.token.0) self.old result self.new }
     {
-        let (at, head) = match hold(self.heads.as_slice(), volume, token) {
-            Ok(held) => held,
-            Err(refusal) => return refuses(refusal),
-        };
+        let (at, head) = held(self.heads.as_slice(), hold)?;
         self.weight -= VOLUME_WEIGHT + head.used;
         self.heads.remove(at);
-        Outcome {
+        Ok(Outcome {
             answer: Answer::Yes,
-            change: Change::Forget(volume),
-        }
+            change: Some(Change::Forget(hold.volume)),
+        })
     }
 }
 
@@ -233,6 +221,7 @@ fn overfills(was: bool, now: bool, weight: u64, room: u64) -> bool
 }
 
 // How many sectors of a volume hold something, where one of them was blank or not, and is now.
+#[tactic(auto, unfolding(disks::specs::Disks::one))]
 fn recounted(used: u64, was: bool, now: bool) -> u64
     requires { used < 2 ^ 63 }
     ensures { result ≡ recount was now used }
@@ -247,32 +236,42 @@ fn recounted(used: u64, was: bool, now: bool) -> u64
 impl Volumes {
     // What a call answers, and what becomes of sectors. `read` is what the sector holds that the call needs, as `needs` says.
     // At most linear in the number of volumes; allocates nothing.
+    #[tactic(auto, using(crate::proofs::Alike::serves_the_meaning))]
     pub fn exec<'a>(&mut self, call: Call<'a>, read: &'a [u8; SECTOR_BYTES]) -> Outcome<'a>
         ensures served { the_served result self.new ≡ serves self.old.room (the_call call.entry) read.now (the_service self.old) }
         ensures same { self.new.room ≡ self.old.room }
         ensures means { ServesTheMeaning }
     {
+        match self.serve(call, read) {
+            Ok(outcome) => outcome,
+            Err(refusal) => tells(Answer::Refused(refusal)),
+        }
+    }
+
+    #[tactic(auto, unfolding(crate::specs::Service::serves))]
+    fn serve<'a>(
+        &mut self,
+        call: Call<'a>,
+        read: &'a [u8; SECTOR_BYTES],
+    ) -> Result<Outcome<'a>, Refusal>
+        ensures { DoesAs (serves self.old.room (the_call call.entry) read.now) self.old result self.new }
+    {
         match call {
             Call::Make(size) => self.make(size),
             Call::Attach(volume) => self.attach(volume),
-            Call::Read(volume, token, sector) => self.read(volume, token, sector, read),
-            Call::Write(volume, token, sector, content) => self.write(
-                volume, token, sector, content, read,
-            ),
-            Call::Sync(volume, token) => self.sync(volume, token),
-            Call::Drop(volume, token) => self.drop_volume(volume, token),
-            Call::Picture(_, _) => self.lacks(),
-            Call::Copy(_) => self.lacks(),
-            Call::DropPicture(_) => self.lacks(),
+            Call::Read(hold, sector) => self.read(hold, sector, read),
+            Call::Write(hold, sector, content) => self.write(hold, sector, content, read),
+            Call::Sync(hold) => self.sync(hold),
+            Call::Drop(hold) => self.drop_volume(hold),
+            Call::Picture(_) | Call::Copy(_) | Call::DropPicture(_) => self.lacks(),
         }
     }
 
     // A call that isn't built yet.
-    fn lacks<'a>(&mut self) -> Outcome<'a>
-        ensures served { the_served result self.new ≡ lacks_call (the_service self.old) }
-        ensures same { self.new.room ≡ self.old.room }
+    fn lacks<'a>(&mut self) -> Result<Outcome<'a>, Refusal>
+        ensures { DoesAs lacks_call self.old result self.new }
     {
-        refuses(Refusal::NotBuilt)
+        Err(Refusal::NotBuilt)
     }
 
     pub fn weight(&self) -> u64
@@ -283,12 +282,11 @@ impl Volumes {
 }
 
 // The sector that must be read before a call is executed.
-pub fn needs(call: &Call) -> Option<(Volume, Sector)>
+pub fn needs(call: &Call) -> Option<Address>
     ensures { option_map the_place result ≡ needed (the_call call.now) }
 {
     match *call {
-        Call::Read(volume, _, sector) => Some((volume, sector)),
-        Call::Write(volume, _, sector, _) => Some((volume, sector)),
+        Call::Read(hold, sector) | Call::Write(hold, sector, _) => Some(address(hold, sector)),
         _ => None,
     }
 }

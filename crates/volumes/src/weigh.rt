@@ -8,12 +8,5 @@ use octets::SECTOR_BYTES;
 pub fn is_blank(sector: &[u8; SECTOR_BYTES]) -> bool
     ensures { result ≡ all_zero sector.now }
 {
-    let mut blank = true;
-    'bytes: for b in sector {
-        if *b != 0 {
-            blank = false;
-            break 'bytes;
-        }
-    }
-    blank
+    sector.iter().all(|b| *b == 0)
 }

@@ -1,15 +1,14 @@
-use Rattle.std.proofs.Common.{sym, refl, ◌∙◌, arith, rules}
-use Rattle.volumes.proofs.Zeros.{zero_more, not_zero, zero_all}
+use Rattle.std.proofs.Common.{◌≡◌, List, [], ◌∷◌, ℕ, nat_eq, refl, ap, ◌&&◌, ◌∙◌, rules, tests}
+use Rattle.std.specs.List.{list_all}
+use Rattle.std.proofs.lemmas.Iterator.{YieldsList-from_slice}
+use Rattle.std.proofs.lemmas.Iterator.Search.{all_from_yields_List}
+use Rattle.disks.specs.Disks.{all_zero}
 use Rattle.volumes.proofs.weigh.is_blank.Goals as goal
 
-pub bytes-init : goal.bytes-init
-bytes-init c = (refl, refl)
+all_zeros : (bs : List ℕ) → list_all (λ b. nat_eq b 0) bs ≡ all_zero bs
+unfolding all_zero
+all_zeros [] = refl
+all_zeros (b ∷ bs) = ap (λ r. nat_eq b 0 && r) (all_zeros bs)
 
-pub bytes-preserved : goal.bytes-preserved
-bytes-preserved c = (c.bytes.invariant.0, c.bytes.invariant.1 ∙ zero_more c.args.sector.now c.bytes.b-index (omega arith) (search rules))
-
-pub returns-after-bytes : goal.returns-after-bytes
-returns-after-bytes c = c.bytes.invariant.0 ∙ sym (c.bytes.invariant.1 ∙ zero_all c.args.sector.now c.bytes.b-index (omega arith))
-
-pub returns-then-b-ne0 : goal.returns-then-b-ne0
-returns-then-b-ne0 c = sym (c.bytes.invariant.1 ∙ not_zero c.args.sector.now c.bytes.b-index (omega arith) (search rules))
+pub returns : goal.returns
+returns c = all_from_yields_List (λ b. nat_eq b 0) _ _ c.all.result c.all.ensures.ran (YieldsList-from_slice _ c.iter.ensures.rest) (λ x b q k. search (rules, tests)) ∙ all_zeros c.args.sector.now
