@@ -1,8 +1,8 @@
 // The disk: sector n is the bytes from 512 n on. After a fault it answers no more, since a file may forget that a write or a sync failed.
-ghost use Rattle.std.specs.Prelude.{◌≡◌, ◌*◌, true, false, ◌⊎◌, MatchResult, Ok, OnErr, is_err};
+ghost use Rattle.std.specs.Prelude.{◌≡◌, ◌*◌, true, false, ◌⊎◌, MatchResult, OnErr};
 ghost use Rattle.device.specs.Does.{broke, Does, read_io, write_io, sync_io, giving};
 ghost use Rattle.file_disk.specs.Files.{wrote_at};
-ghost use Rattle.file_disk.specs.Disks.{disk_did, DiskHolds, Outside, Failed};
+ghost use Rattle.file_disk.specs.Disks.{disk_did, DiskHolds, Ended, Outside, Failed};
 ghost use Rattle.file_disk.specs.Models.{disk_models};
 
 use crate::places::Places;
@@ -44,7 +44,7 @@ impl<F: Places> FileDisk<F> {
     // What came of a request to the file; if it failed, the disk answers no more.
     // A match: with map_err and a closure that gives up, nothing is known of the disk where the closure isn't called.
     fn answer(&mut self, done: io::Result<()>) -> Result<(), Fault>
-        ensures { MatchResult done (λ _. (result ≡ Ok tt) × (self.new ≡ self.old)) (λ _. (is_err result ≡ true) × (self.new.broken ≡ true) × (self.new.file ≡ self.old.file)) }
+        ensures { Ended done self.old result self.new }
     {
         match done {
             Ok(()) => Ok(()),

@@ -7,4 +7,4 @@ pub returns-in_err-place-clause-does : goal.returns-in_err-place-clause-does
 returns-in_err-place-clause-does g c = search (rules, disks, failed, giving_err)
 
 pub returns-clause-does : goal.returns-clause-does
-returns-clause-does g c = by_done c.read_at-done.result c.read_at-done.ensures c.answer.ensures (λ _ p x. search (rules, disks, p, x)) (λ _ p x. search (rules, disks, failed, giving_err, p, x))
+returns-clause-does g c = by_done c.read_at-done.result c.read_at-done.ensures c.answer.ensures.cases (λ _ p x. search (rules, disks, p, x)) (λ _ p x. search (rules, disks, failed, giving_err, p, x))

@@ -7,4 +7,4 @@ pub returns-then-self : goal.returns-then-self
 returns-then-self g c = search (rules, disks)
 
 pub returns-clause-does : goal.returns-clause-does
-returns-clause-does g c = flushes _ _ (search rules) (search rules) c.answer.ensures
+returns-clause-does g c = search (rules, flushes, c.answer.ensures)
