@@ -1,24 +1,41 @@
--- One write more.
-use Rattle.std.proofs.Common.{◌≡◌, ℕ, ◌+◌, ◌<◌, cond, List, [], ◌∷◌, ◌++◌, ◌==◌, length, get_or, take, replicate, refl, ap, ◌∙◌}
-use Rattle.std.proofs.lemmas.List.{take_more, replicate_more}
+-- What the last of some writes to a sector gave.
+use Rattle.std.proofs.Common.{◌≡◌, ℕ, Bool, true, false, cond, List, [], ◌∷◌, ◌++◌, ◌==◌, replicate, Option, Some, None, Bor, sym, refl, ap, ◌∙◌}
+use mathlib.Core.List.{reverse}
+use Rattle.std.specs.List.{find}
+use Rattle.std.specs.Option.{option_copied}
+use Rattle.std.proofs.lemmas.Grind.{reverse_onto}
 use Rattle.disks.specs.Device.{zeros}
 use Rattle.journal.specs.declared.state.Write.{Write}
-use Rattle.journal.specs.Programs.{no_write}
 use Rattle.cut_trial.specs.Models.{after_writes}
 
-after_writes-push : (ws : List Write) (w : Write) (at : ℕ) (b : List ℕ) → after_writes (ws ++ w ∷ []) at b ≡ cond (w.target.0 == at) w.bytes (after_writes ws at b)
-after_writes-push [] w at b = refl
-after_writes-push (x ∷ ws) w at b = after_writes-push ws w at (cond (x.target.0 == at) x.bytes b)
+abbrev pub is_to : ℕ → Write → Bool
+is_to at w = w.target.0 == at
 
-pub after_writes_more : (ws : List Write) (i at : ℕ) (b : List ℕ) → i < length ws →
-    after_writes (take (i + 1) ws) at b ≡ cond ((get_or ws i no_write).target.0 == at) (get_or ws i no_write).bytes (after_writes (take i ws) at b)
-after_writes_more ws i at b h = ap (λ (xs : List Write). after_writes xs at b) (take_more ws i no_write h) ∙ after_writes-push (take i ws) (get_or ws i no_write) at b
+abbrev pub held : List ℕ → Option Write → List ℕ
+held b None = b
+held b (Some w) = w.bytes
+
+held_behind : (test : Write → Bool) (xs : List Write) (w : Write) (b : List ℕ) → held b (find test (xs ++ w ∷ [])) ≡ held (cond (test w) w.bytes b) (find test xs)
+held_behind test [] w b = go (test w)
+  where
+    go : (c : Bool) → held b (cond c (Some w) None) ≡ cond c w.bytes b
+    go true = refl
+    go false = refl
+held_behind test (x ∷ xs) w b = go (test x) (held_behind test xs w b)
+  where
+    go : (c : Bool) → held b (find test (xs ++ w ∷ [])) ≡ held (cond (test w) w.bytes b) (find test xs) →
+        held b (cond c (Some x) (find test (xs ++ w ∷ []))) ≡ held (cond (test w) w.bytes b) (cond c (Some x) (find test xs))
+    go true e = refl
+    go false e = e
+
+last_write : (ws : List Write) (at : ℕ) (b : List ℕ) → held b (find (is_to at) (reverse ws)) ≡ after_writes ws at b
+last_write [] at b = refl
+last_write (w ∷ ws) at b =
+    ap (λ (xs : List Write). held b (find (is_to at) xs)) (reverse_onto ws w []) ∙ held_behind (is_to at) (reverse ws) w b ∙ last_write ws at (cond (is_to at w) w.bytes b)
+
+pub latest_is : (ws : List Write) (at : ℕ) (b : List ℕ) (o p : Option (Bor Write)) → o ≡ p → option_copied o ≡ find (is_to at) (reverse ws) → held b (option_copied p) ≡ after_writes ws at b
+latest_is ws at b o p e f = ap (λ (x : Option (Bor Write)). held b (option_copied x)) (sym e) ∙ ap (held b) f ∙ last_write ws at b
 
 pub blank_zeros : replicate {A = ℕ} 512 0 ≡ zeros 512
 unfolding zeros
 blank_zeros = refl
-
--- one more blank sector of the array
-pub filled_more : (n : ℕ) (xs ys : List (List ℕ)) (b : List ℕ) → b ≡ zeros 512 → xs ≡ replicate n (zeros 512) → ys ≡ xs ++ b ∷ [] → ys ≡ replicate (n + 1) (zeros 512)
-filled_more n xs ys b blank held pushed =
-    pushed ∙ ap (λ (zs : List (List ℕ)). zs ++ b ∷ []) held ∙ ap (λ (x : List ℕ). replicate n (zeros 512) ++ x ∷ []) blank ∙ replicate_more n (zeros 512)

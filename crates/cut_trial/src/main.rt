@@ -3,8 +3,7 @@
 
 mod model;
 
-use anyhow::anyhow;
-use device::disk::Fault;
+use anyhow::{Context, anyhow};
 use device::get::get;
 use device::open::open;
 use device::put::put;
@@ -13,7 +12,8 @@ use memory_disk::MemoryDisk;
 use memory_disk::random::Random;
 use model::{Model, PLAYED, transaction};
 use std::alloc::Global;
-use std::{env, io};
+use std::env::Args;
+use std::{env, fmt};
 
 const SIZE: u64 = 4096;
 
@@ -23,7 +23,7 @@ const WRONG: &str = "what was found is neither before nor after the transaction 
 
 const REFUSED: &str = "the journal refused";
 
-#[derive(Clone, Copy)]
+#[derive(Clone, Copy, Default)]
 struct Counts {
     cut_opening: u64,
     cut_putting: u64,
@@ -41,8 +41,24 @@ struct Trial {
     counts: Counts,
 }
 
-fn more(n: u64) -> u64 {
-    n.saturating_add(1)
+impl fmt::Display for Counts {
+    fn fmt<W: fmt::Write>(&self, f: &mut fmt::Formatter<W>) -> fmt::Result {
+        writeln!(
+            f,
+            "while opening {}, while putting {}, between {}",
+            self.cut_opening, self.cut_putting, self.cut_between
+        )?;
+        write!(
+            f,
+            "transactions done {}, cut and lost {}, cut and whole {}",
+            self.done, self.lost, self.kept
+        )
+    }
+}
+
+// Counts one more.
+fn count(n: &mut u64) {
+    *n = n.saturating_add(1);
 }
 
 impl Trial {
@@ -52,14 +68,13 @@ impl Trial {
         self.disk.cut(seed);
     }
 
-    // Which of the two arrays the device shows: with the cut transaction, or without it.
-    fn shows(&mut self, journal: &Journal, writes: &[Write]) -> Result<bool, Fault> {
+    // Whether the device shows the array with these writes done.
+    fn shows(&mut self, journal: &Journal, writes: &[Write]) -> anyhow::Result<bool> {
         for i in 0..PLAYED {
-            let Got::Sector(bytes) = get(journal, &mut self.disk, Model::place(i))? else {
-                return Ok(false);
-            };
-            if !self.model.holds(i, writes, &bytes) {
-                return Ok(false);
+            let got = get(journal, &mut self.disk, Model::place(i));
+            match got.map_err(|_| anyhow!("a read failed"))? {
+                Got::Sector(bytes) if self.model.holds(i, writes, &bytes) => {}
+                _ => return Ok(false),
             }
         }
         Ok(true)
@@ -76,7 +91,7 @@ impl Trial {
                 Ok(Opened::Ready(journal)) => return Ok(journal),
                 Ok(Opened::Foreign) => return Err(anyhow!("{REFUSED}")),
                 Err(_) => {
-                    self.counts.cut_opening = more(self.counts.cut_opening);
+                    count(&mut self.counts.cut_opening);
                     self.fail();
                 }
             }
@@ -87,25 +102,18 @@ impl Trial {
     // What stands now: the cut transaction is done whole, or not at all.
     fn compare(&mut self, journal: &Journal, cut: &[Write]) -> anyhow::Result<()> {
         self.disk.fail_after(u64::MAX);
-        match self.shows(journal, &[]) {
-            Ok(true) => {
-                if !cut.is_empty() {
-                    self.counts.lost = more(self.counts.lost);
-                }
-                return Ok(());
+        if self.shows(journal, &[])? {
+            if !cut.is_empty() {
+                count(&mut self.counts.lost);
             }
-            Ok(false) => {}
-            Err(_) => return Err(anyhow!("a read failed")),
+            return Ok(());
         }
-        match self.shows(journal, cut) {
-            Ok(true) => {
-                self.counts.kept = more(self.counts.kept);
-                self.model.put(cut);
-                Ok(())
-            }
-            Ok(false) => Err(anyhow!("{WRONG}")),
-            Err(_) => Err(anyhow!("a read failed")),
+        if !self.shows(journal, cut)? {
+            return Err(anyhow!("{WRONG}"));
         }
+        count(&mut self.counts.kept);
+        self.model.put(cut);
+        Ok(())
     }
 
     // Some transactions, until the power fails; the one that was cut.
@@ -119,39 +127,32 @@ impl Trial {
             }
             match put(journal, &mut self.disk, writes.as_slice()) {
                 Ok(Outcome::Done) => {
-                    self.counts.done = more(self.counts.done);
+                    count(&mut self.counts.done);
                     self.model.put(writes.as_slice());
                 }
                 Ok(Outcome::Refused(_)) => return Err(anyhow!("{REFUSED}")),
                 Err(_) => {
-                    self.counts.cut_putting = more(self.counts.cut_putting);
+                    count(&mut self.counts.cut_putting);
                     return Ok(writes);
                 }
             }
         }
-        self.counts.cut_between = more(self.counts.cut_between);
+        count(&mut self.counts.cut_between);
         Ok(Vec::new(heap))
     }
+}
+
+// The next word, if it is a number.
+fn number(words: &mut Args) -> Option<u64> {
+    words.next()?.parse().ok()
 }
 
 fn arguments(rt: &HostRuntime) -> anyhow::Result<(u64, u64)> {
     let mut words = env::args(rt)?;
     let _program = words.next();
-    let (Some(seed), Some(cuts)) = (words.next(), words.next()) else {
-        return Err(anyhow!("{USAGE}"));
-    };
-    let (Ok(seed), Ok(cuts)) = (seed.parse::<u64>(), cuts.parse::<u64>()) else {
-        return Err(anyhow!("{USAGE}"));
-    };
+    let seed = number(&mut words).context(USAGE)?;
+    let cuts = number(&mut words).context(USAGE)?;
     Ok((seed, cuts))
-}
-
-fn print_counts(rt: &HostRuntime, cuts: u64, c: Counts) -> io::Result<()> {
-    println!(rt; "cuts {cuts}")?;
-    let (a, b, d) = (c.cut_opening, c.cut_putting, c.cut_between);
-    println!(rt; "while opening {a}, while putting {b}, between {d}")?;
-    let (done, lost, kept) = (c.done, c.lost, c.kept);
-    println!(rt; "transactions done {done}, cut and lost {lost}, cut and whole {kept}")
 }
 
 fn run(rt: &HostRuntime) -> anyhow::Result<()> {
@@ -161,14 +162,7 @@ fn run(rt: &HostRuntime) -> anyhow::Result<()> {
         disk: MemoryDisk::new(heap, SIZE),
         model: Model::new(heap)?,
         random: Random::new(seed),
-        counts: Counts {
-            cut_opening: 0,
-            cut_putting: 0,
-            cut_between: 0,
-            done: 0,
-            lost: 0,
-            kept: 0,
-        },
+        counts: Counts::default(),
     };
     let mut cut = Vec::new(heap);
     for _ in 0..cuts {
@@ -177,7 +171,8 @@ fn run(rt: &HostRuntime) -> anyhow::Result<()> {
         cut = trial.play(heap, &mut journal)?;
         trial.fail();
     }
-    print_counts(rt, cuts, trial.counts)?;
+    println!(rt; "cuts {cuts}")?;
+    println!(rt; "{}", trial.counts)?;
     Ok(())
 }
 

@@ -1,7 +1,7 @@
 // The plain array that the journal is compared with: a few sectors of the device, and the transaction that was cut, if one was.
 ghost use Rattle.std.specs.Prelude.{◌≡◌, ℕ, ◌<◌, ◌≤◌, ◌↔◌, IfOk, IsTrue, replicate, length, slice_index_or, vec_len};
 ghost use Rattle.disks.specs.Device.{zeros};
-ghost use Rattle.cut_trial.specs.Models.{placed, after_writes};
+ghost use Rattle.cut_trial.specs.Models.{placed, after_writes, Chosen};
 
 use journal::state::Write;
 use journal::{GUARDED, Place};
@@ -23,23 +23,17 @@ pub struct Model {
 fn latest(writes: &[Write], at: Place, before: [u8; SECTOR_BYTES]) -> [u8; SECTOR_BYTES]
     ensures { result ≡ after_writes writes.now at.0 before }
 {
-    let mut bytes = before;
-    for w in writes {
-        if w.target.0 == at.0 {
-            bytes = w.bytes;
-        }
+    match writes.iter().rev().find(|w| w.target == at) {
+        Some(w) => w.bytes,
+        None => before,
     }
-    bytes
 }
 
 impl Model {
     pub fn new(heap: Global) -> Result<Model, AllocError>
         ensures { IfOk result (λ m. m.sectors.items ≡ replicate 48 (zeros 512)) }
     {
-        let mut sectors = Vec::new(heap);
-        for _ in 0..PLAYED {
-            sectors.push(BLANK_SECTOR)?;
-        }
+        let sectors = vec![in heap; BLANK_SECTOR; PLAYED]?;
         Ok(Model { sectors })
     }
 
@@ -54,6 +48,7 @@ impl Model {
         ensures count { vec_len self.new.sectors ≡ vec_len self.old.sectors }
         ensures each { (k : ℕ) → k < vec_len self.old.sectors → slice_index_or self.new.sectors.items k (zeros 512) ≡ after_writes writes.now (placed k) (slice_index_or self.old.sectors.items k (zeros 512)) }
     {
+        // By index: after iter_mut().enumerate() nothing is known of the elements.
         for i in 0..self.sectors.len() {
             self.sectors[i] = latest(writes, Model::place(i), self.sectors[i]);
         }
@@ -63,10 +58,7 @@ impl Model {
     pub fn holds(&self, i: usize, writes: &[Write], bytes: &[u8; SECTOR_BYTES]) -> bool
         ensures { IsTrue result ↔ (after_writes writes.now (placed i) (slice_index_or self.now.sectors.items i (zeros 512)) ≡ bytes.now) }
     {
-        let mut before = BLANK_SECTOR;
-        if i < self.sectors.len() {
-            before = self.sectors[i];
-        }
+        let before = self.sectors.get(i).copied().unwrap_or(BLANK_SECTOR);
         latest(writes, Model::place(i), before) == *bytes
     }
 }
@@ -82,7 +74,9 @@ fn sector(random: &mut Random) -> [u8; SECTOR_BYTES] {
 }
 
 // Some of the sectors, each once, with new bytes.
-pub fn transaction(heap: Global, random: &mut Random) -> Result<Vec<Write>, AllocError> {
+pub fn transaction(heap: Global, random: &mut Random) -> Result<Vec<Write>, AllocError>
+    ensures { IfOk result (λ v. Chosen 48 v.items) }
+{
     let mut writes = Vec::new(heap);
     let share = 1 + random.below(8);
     for i in 0..PLAYED {

@@ -1,16 +1,19 @@
 // Writes to the file `device`, for a script that takes the time: so many transactions of so many sectors, or as often one sector and a sync.
 #![tactic(auto)]
 
-use anyhow::anyhow;
-use device::disk::Disk;
+use anyhow::{Context, anyhow};
+use device::disk::{Disk, Fault};
 use device::open::open;
 use device::put::put;
 use file_disk::disk::FileDisk;
 use journal::state::{Opened, Outcome, Write};
 use journal::{GUARDED, MOST_WRITES, Place};
 use octets::BLANK_SECTOR;
+use std::alloc::{AllocError, Global};
 use std::env;
+use std::env::Args;
 use std::fs::{File, OpenOptions};
+use std::str::FromStr;
 
 const SIZE: u64 = 4096;
 
@@ -19,15 +22,19 @@ const USAGE: &str =
 
 const FAILED: &str = "the device failed";
 
+// The next word, if it is a number of this type.
+fn number<T: FromStr>(words: &mut Args) -> Option<T>
+where
+    T::Err: Drop,
+{
+    words.next()?.parse().ok()
+}
+
 fn arguments(rt: &HostRuntime) -> anyhow::Result<(u8, u64)> {
     let mut words = env::args(rt)?;
     let _program = words.next();
-    let (Some(sectors), Some(times)) = (words.next(), words.next()) else {
-        return Err(anyhow!("{USAGE}"));
-    };
-    let (Ok(sectors), Ok(times)) = (sectors.parse::<u8>(), times.parse::<u64>()) else {
-        return Err(anyhow!("{USAGE}"));
-    };
+    let sectors = number::<u8>(&mut words).context(USAGE)?;
+    let times = number::<u64>(&mut words).context(USAGE)?;
     if usize::from(sectors) > MOST_WRITES {
         return Err(anyhow!("{USAGE}"));
     }
@@ -35,44 +42,52 @@ fn arguments(rt: &HostRuntime) -> anyhow::Result<(u8, u64)> {
 }
 
 // One sector and a sync, so many times.
-fn bare(disk: &mut FileDisk<File>, times: u64) -> anyhow::Result<()> {
+fn bare(disk: &mut FileDisk<File>, times: u64) -> Result<(), Fault> {
     for _ in 0..times {
-        let (Ok(()), Ok(())) = (disk.write(Place(GUARDED), &BLANK_SECTOR), disk.sync()) else {
-            return Err(anyhow!("{FAILED}"));
-        };
+        disk.write(Place(GUARDED), &BLANK_SECTOR)?;
+        disk.sync()?;
     }
     Ok(())
 }
 
 // Transactions of these writes, so many times.
 fn transactions(disk: &mut FileDisk<File>, writes: &[Write], times: u64) -> anyhow::Result<()> {
-    let Ok(Opened::Ready(journal)) = open(disk, SIZE) else {
+    let Opened::Ready(mut journal) = open(disk, SIZE).map_err(failed)? else {
         return Err(anyhow!("{FAILED}"));
     };
-    let mut journal = journal;
     for _ in 0..times {
-        let Ok(Outcome::Done) = put(&mut journal, disk, writes) else {
+        let Outcome::Done = put(&mut journal, disk, writes).map_err(failed)? else {
             return Err(anyhow!("{FAILED}"));
         };
     }
     Ok(())
 }
 
+fn failed(_: Fault) -> anyhow::Error {
+    anyhow!("{FAILED}")
+}
+
+// Blank sectors, the first that the journal guards.
+fn blank_writes(heap: Global, sectors: u8) -> Result<Vec<Write>, AllocError> {
+    (0..u64::from(sectors))
+        .map(|i| Write {
+            target: Place(GUARDED + i),
+            bytes: BLANK_SECTOR,
+        })
+        .collect(heap)
+}
+
 fn run(rt: &HostRuntime) -> anyhow::Result<()> {
     let (sectors, times) = arguments(rt)?;
-    let Ok(file) = OpenOptions::new().read(true).write(true).open(rt, "device") else {
-        return Err(anyhow!("the file `device` cannot be opened in this folder"));
-    };
+    let file = OpenOptions::new()
+        .read(true)
+        .write(true)
+        .open(rt, "device")
+        .map_err(|_| anyhow!("the file `device` cannot be opened in this folder"))?;
     let mut disk = FileDisk::new(file);
-    let mut writes = Vec::new(rt.alloc());
-    for i in 0..sectors {
-        writes.push(Write {
-            target: Place(GUARDED + i as u64),
-            bytes: BLANK_SECTOR,
-        })?;
-    }
-    if sectors == 0 {
-        bare(&mut disk, times)?;
+    let writes = blank_writes(rt.alloc(), sectors)?;
+    if writes.is_empty() {
+        bare(&mut disk, times).map_err(failed)?;
     } else {
         transactions(&mut disk, writes.as_slice(), times)?;
     }

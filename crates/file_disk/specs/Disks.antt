@@ -1,6 +1,6 @@
 -- A disk on a file: what it does, in what its file does.
 -- Assumes nothing.
-use Rattle.std.specs.Prelude.{◌≡◌, ℕ, ◌*◌, ◌^◌, ◌≤◌, true, false, ◌⊎◌}
+use Rattle.std.specs.Prelude.{◌≡◌, ℕ, ◌*◌, ◌^◌, ◌≤◌, true, false, ◌⊎◌, MatchResult, is_err, Ok, Result}
 use Rattle.disks.specs.Device.{Device}
 use Rattle.device.specs.Does.{Act, idle, gave, took, settled, broke}
 use Rattle.file_disk.specs.Files.{FileAct, read_at, wrote_at, flushed, failed}
@@ -29,6 +29,10 @@ module _ {F : Type 0} (made : F → FileAct → F → Type 0) where
   -- why a request is refused: the disk was broken, or its file failed
   abbrev pub Failed : FileDisk F → FileDisk F → Type 0
   Failed s t = (s.broken ≡ true) ⊎ made s.file failed t.file
+
+-- from s to t a request to the file that came to `done` ended: the disk answers r
+pub record Ended {F D E : Type 0} (done : Result (Unit {0}) D) (s : FileDisk F) (r : Result (Unit {0}) E) (t : FileDisk F) : Type 0 where
+  pub cases : MatchResult done (λ _. (r ≡ Ok tt) × (t ≡ s)) (λ _. (is_err r ≡ true) × (t.broken ≡ true) × (t.file ≡ s.file))
 
 -- or the sector lies past every place of a file
 abbrev pub Outside : ℕ → Type 0

@@ -1,15 +1,17 @@
 // The disk: sector n is the bytes from 512 n on. After a fault it answers no more, since a file may forget that a write or a sync failed.
-ghost use Rattle.std.specs.Prelude.{◌≡◌, ◌*◌, true, false, ◌⊎◌, MatchOption, OnErr};
+ghost use Rattle.std.specs.Prelude.{◌≡◌, ◌*◌, true, false, ◌⊎◌, MatchResult, OnErr};
 ghost use Rattle.device.specs.Does.{broke, Does, read_io, write_io, sync_io, giving};
 ghost use Rattle.file_disk.specs.Files.{wrote_at};
-ghost use Rattle.file_disk.specs.Disks.{disk_did, DiskHolds, Outside, Failed};
+ghost use Rattle.file_disk.specs.Disks.{disk_did, DiskHolds, Ended, Outside, Failed};
 ghost use Rattle.file_disk.specs.Models.{disk_models};
 
 use crate::places::Places;
 use device::disk::{Disk, Fault};
 use journal::Place;
 use octets::SECTOR_BYTES;
+use std::io;
 
+// broken: a flag beside the file and no Option of it, since a file that failed still holds what it held, and contracts say so.
 #[derive(Drop)]
 pub struct FileDisk<F> {
     file: F,
@@ -26,15 +28,28 @@ impl<F> FileDisk<F> {
             broken: false,
         }
     }
+}
 
-    // Where a sector begins, if the disk answers.
-    fn start(&self, at: Place) -> Option<u64>
-        ensures { MatchOption result ((self.now.broken ≡ true) ⊎ Outside at.0) (λ p. (self.now.broken ≡ false) × (p ≡ at.0 * 512)) }
+impl<F: Places> FileDisk<F> {
+    // Where a sector begins, if the disk answers; else it answers no more.
+    fn start(&mut self, at: Place) -> Result<u64, Fault>
+        ensures { MatchResult result (λ p. (self.old.broken ≡ false) × (p ≡ at.0 * 512) × (self.new ≡ self.old)) (λ _. ((self.old.broken ≡ true) ⊎ Outside at.0) × (self.new.broken ≡ true) × (self.new.file ≡ self.old.file)) }
     {
-        if self.broken {
-            return None;
+        match at.0.checked_mul(SECTOR_BYTES as u64) {
+            Some(place) if !self.broken => Ok(place),
+            _ => Err(self.give_up()),
         }
-        at.0.checked_mul(SECTOR_BYTES as u64)
+    }
+
+    // What came of a request to the file; if it failed, the disk answers no more.
+    // A match: with map_err and a closure that gives up, nothing is known of the disk where the closure isn't called.
+    fn answer(&mut self, done: io::Result<()>) -> Result<(), Fault>
+        ensures { Ended done self.old result self.new }
+    {
+        match done {
+            Ok(()) => Ok(()),
+            Err(_) => Err(self.give_up()),
+        }
     }
 }
 
@@ -49,26 +64,18 @@ impl<F: Places> Disk for FileDisk<F> {
         ensures does { Does (disk_did F.Places.made) (read_io at.0) self.old (giving result buf.new) self.new }
         ensures refused { OnErr result (Outside at.0 ⊎ Failed F.Places.made self.old self.new) }
     {
-        let Some(place) = self.start(at) else {
-            return Err(self.give_up());
-        };
-        match self.file.read_at(place, buf) {
-            Ok(()) => Ok(()),
-            Err(_) => Err(self.give_up()),
-        }
+        let place = self.start(at)?;
+        let done = self.file.read_at(place, buf);
+        self.answer(done)
     }
 
     fn write(&mut self, at: Place, bytes: &[u8; SECTOR_BYTES]) -> Result<(), Fault>
         ensures does { Does (disk_did F.Places.made) (write_io at.0 bytes.now) self.old result self.new }
         ensures refused { OnErr result (Outside at.0 ⊎ (Failed F.Places.made self.old self.new ⊎ F.Places.made self.old.file (wrote_at (at.0 * 512) bytes.now) self.new.file)) }
     {
-        let Some(place) = self.start(at) else {
-            return Err(self.give_up());
-        };
-        match self.file.write_at(place, bytes) {
-            Ok(()) => Ok(()),
-            Err(_) => Err(self.give_up()),
-        }
+        let place = self.start(at)?;
+        let done = self.file.write_at(place, bytes);
+        self.answer(done)
     }
 
     fn sync(&mut self) -> Result<(), Fault>
@@ -78,10 +85,8 @@ impl<F: Places> Disk for FileDisk<F> {
         if self.broken {
             return Err(self.give_up());
         }
-        match self.file.flush_all() {
-            Ok(()) => Ok(()),
-            Err(_) => Err(self.give_up()),
-        }
+        let done = self.file.flush_all();
+        self.answer(done)
     }
 
     // The disk answers no more.

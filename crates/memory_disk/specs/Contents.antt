@@ -46,20 +46,28 @@ if_any (a ∷ rest) x y = x
 abbrev pub present : Table → ℕ → Bool
 present m n = is_some (get nat_cmp m n)
 
+-- from one table to another what every sector keeps stayed
+abbrev pub SameKept : Table → Table → Type 0
+SameKept m m' = (n : ℕ) → kept_at m' n ≡ kept_at m n
+
+-- and what every sector shows
+abbrev pub SameShown : Table → Table → Type 0
+SameShown m m' = (n : ℕ) → shown_at m' n ≡ shown_at m n
+
 -- from one table to another the sector k came to show these bytes
 pub record Wrote (k : ℕ) (b : List ℕ) (m m' : Table) : Type 0 where
-  pub kept : (n : ℕ) → kept_at m' n ≡ kept_at m n
+  pub kept : SameKept m m'
   pub shown : (n : ℕ) → shown_at m' n ≡ cond (n == k) b (shown_at m n)
 
 -- no sector changed
 pub record Alike (m m' : Table) : Type 0 where
-  pub kept : (n : ℕ) → kept_at m' n ≡ kept_at m n
-  pub shown : (n : ℕ) → shown_at m' n ≡ shown_at m n
+  pub kept : SameKept m m'
+  pub shown : SameShown m m'
 
 -- from one table to another all that these writes gave stays
 pub record Settled (ws : List Write) (m m' : Table) : Type 0 where
   pub kept : (n : ℕ) → kept_at m' n ≡ if_any (since_in ws n) (shown_at m n) (kept_at m n)
-  pub shown : (n : ℕ) → shown_at m' n ≡ shown_at m n
+  pub shown : SameShown m m'
 
 -- of each sector stays what was kept, or anything that these writes gave it, and it shows that
 pub record Lost (ws : List Write) (m m' : Table) : Type 0 where

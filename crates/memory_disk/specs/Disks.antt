@@ -4,7 +4,7 @@ use Rattle.std.specs.Prelude.{◌≡◌, ℕ, ◌-◌, ◌<◌, ◌≤◌, Bool,
 use Rattle.disks.specs.Device.{Device, shown, written, synced, AfterCut}
 use Rattle.journal.specs.declared.state.Write.{Write}
 use Rattle.device.specs.Does.{Act, idle, gave, took, settled, broke}
-use Rattle.memory_disk.specs.Contents.{kept_at, present, since_in}
+use Rattle.memory_disk.specs.Contents.{kept_at, present, since_in, SameKept}
 use Rattle.memory_disk.specs.declared.MemoryDisk.{MemoryDisk}
 
 -- what its sectors held at the last sync, and what was written to them since
@@ -39,7 +39,7 @@ pub record Counted (s : MemoryDisk) (within r : Bool) (t : MemoryDisk) : Type 0 
 -- from s to t these became the log, and what is kept stayed
 pub record Noted (s : MemoryDisk) (ws : List Write) (t : MemoryDisk) : Type 0 where
   pub log : vec_items t.log ≡ ws
-  pub kept : (n : ℕ) → kept_at t.sectors.written n ≡ kept_at s.sectors.written n
+  pub kept : SameKept s.sectors.written t.sectors.written
   pub size : t.size ≡ s.size
   pub left : t.left ≡ s.left
 

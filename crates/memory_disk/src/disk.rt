@@ -1,7 +1,7 @@
 // What the disk answers.
-ghost use Rattle.std.specs.Prelude.{◌≡◌, false, ◌&&◌, ◌⊎◌, [], ◌∷◌, ◌++◌, is_ok, MatchResult, OnErr, nat_lt};
+ghost use Rattle.std.specs.Prelude.{◌≡◌, true, false, ◌&&◌, ◌⊎◌, [], ◌∷◌, ◌++◌, is_ok, MatchResult, OnErr, nat_lt};
 ghost use Rattle.device.specs.Does.{Does, read_io, write_io, sync_io, giving};
-ghost use Rattle.memory_disk.specs.Disks.{MemoryDid, MemoryHolds, answers, Counted, Noted, MayGrow};
+ghost use Rattle.memory_disk.specs.Disks.{MemoryDid, MemoryHolds, answers, Counted, Broke, Noted, MayGrow};
 ghost use Rattle.memory_disk.specs.Models.{memory_models};
 
 use crate::MemoryDisk;
@@ -12,20 +12,18 @@ use octets::SECTOR_BYTES;
 use std::alloc::AllocError;
 
 impl MemoryDisk {
-    // Counts a request: whether it is answered.
-    fn counts(&mut self, within: bool) -> bool
-        ensures { Counted self.old within result self.new }
+    // Counts a request; if it isn't answered, the disk gives up.
+    fn count(&mut self, within: bool) -> Result<(), Fault>
+        ensures answered { is_ok result ≡ (within && answers self.old.left) }
+        ensures counted { MatchResult result (λ _. Counted self.old within true self.new) (λ _. Broke self.old self.new) }
     {
-        if !within {
-            return false;
-        }
         match self.left {
-            None => true,
-            Some(0) => false,
-            Some(n) => {
+            None if within => Ok(()),
+            Some(n) if within && n > 0 => {
                 self.left = Some(n - 1);
-                true
+                Ok(())
             }
+            _ => Err(self.give_up()),
         }
     }
 
@@ -55,9 +53,7 @@ impl Disk for MemoryDisk {
         ensures does { Does MemoryDid (read_io at.0) self.old (giving result buf.new) self.new }
         ensures answered { is_ok result ≡ (nat_lt at.0 self.old.size && answers self.old.left) }
     {
-        if !self.counts(at.0 < self.size) {
-            return Err(self.give_up());
-        }
+        self.count(at.0 < self.size)?;
         self.sectors.read(at.0, buf);
         Ok(())
     }
@@ -66,9 +62,8 @@ impl Disk for MemoryDisk {
         ensures does { Does MemoryDid (write_io at.0 bytes.now) self.old result self.new }
         ensures refused { OnErr result (((nat_lt at.0 self.old.size && answers self.old.left) ≡ false) ⊎ MayGrow self.old at.0) }
     {
-        if !self.counts(at.0 < self.size) {
-            return Err(self.give_up());
-        }
+        self.count(at.0 < self.size)?;
+        // A match: with map_err and a closure that gives up, nothing is known of the disk where the closure isn't called.
         match self.note(at, bytes) {
             Ok(()) => Ok(()),
             Err(_) => Err(self.give_up()),
@@ -79,9 +74,7 @@ impl Disk for MemoryDisk {
         ensures does { Does MemoryDid sync_io self.old result self.new }
         ensures answered { is_ok result ≡ answers self.old.left }
     {
-        if !self.counts(true) {
-            return Err(self.give_up());
-        }
+        self.count(true)?;
         self.sectors.settle_all(self.log.as_slice());
         self.log.clear();
         Ok(())

@@ -37,7 +37,6 @@ impl Random {
         ensures value { result ≡ (if nat_eq n 0 then 0 else mixed (stepped self.old.state) % n) }
         ensures state { self.new.state ≡ stepped self.old.state }
     {
-        let x = self.next();
-        if n == 0 { 0 } else { x % n }
+        self.next().checked_rem(n).unwrap_or(0)
     }
 }

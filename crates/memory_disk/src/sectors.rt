@@ -2,7 +2,7 @@
 ghost use Rattle.std.specs.Prelude.{◌≡◌, ℕ, false, ◌&&◌, if◌then◌else◌, MatchResult, OnErr, nat_eq};
 ghost use Rattle.std.specs.BTreeMap.{btree_map_len};
 ghost use Rattle.disks.specs.Device.{zeros};
-ghost use Rattle.memory_disk.specs.Contents.{kept_at, shown_at, present, Wrote, Alike, Settled, Lost};
+ghost use Rattle.memory_disk.specs.Contents.{kept_at, shown_at, present, SameKept, SameShown, Wrote, Alike, Settled, Lost};
 
 use crate::chance::Chance;
 use journal::state::Write;
@@ -72,9 +72,10 @@ impl Sectors {
     }
 
     // What the sector shows stays.
+    // This and the next two are an assignment each and prove alone: one function over a closure wanted a definition, a lemma and three answers.
     pub fn settle(&mut self, at: u64)
         ensures kept { (n : ℕ) → kept_at self.new.written n ≡ (if nat_eq n at then shown_at self.old.written n else kept_at self.old.written n) }
-        ensures shown { (n : ℕ) → shown_at self.new.written n ≡ shown_at self.old.written n }
+        ensures shown { SameShown self.old.written self.new.written }
     {
         if let Some(sector) = self.written.get_mut(&at) {
             sector.kept = sector.shown;
@@ -84,7 +85,7 @@ impl Sectors {
     // The sector, if it is there, keeps these bytes.
     fn keep(&mut self, at: u64, bytes: &[u8; SECTOR_BYTES])
         ensures kept { (n : ℕ) → kept_at self.new.written n ≡ (if nat_eq n at && present self.old.written at then bytes.now else kept_at self.old.written n) }
-        ensures shown { (n : ℕ) → shown_at self.new.written n ≡ shown_at self.old.written n }
+        ensures shown { SameShown self.old.written self.new.written }
     {
         if let Some(sector) = self.written.get_mut(&at) {
             sector.kept = *bytes;
@@ -93,7 +94,7 @@ impl Sectors {
 
     // The sector shows what it keeps.
     fn revert(&mut self, at: u64)
-        ensures kept { (n : ℕ) → kept_at self.new.written n ≡ kept_at self.old.written n }
+        ensures kept { SameKept self.old.written self.new.written }
         ensures shown { (n : ℕ) → shown_at self.new.written n ≡ (if nat_eq n at then kept_at self.old.written n else shown_at self.old.written n) }
     {
         if let Some(sector) = self.written.get_mut(&at) {

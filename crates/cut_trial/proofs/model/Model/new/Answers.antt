@@ -1,5 +1,7 @@
-use Rattle.cut_trial.proofs.Writes.{filled_more, blank_zeros}
+use Rattle.std.proofs.Common.{◌≡◌, ℕ, List, replicate, ap, ◌∙◌}
+use Rattle.std.proofs.lemmas.List.Elements.{same_from_all_zip}
+use Rattle.cut_trial.proofs.Writes.{blank_zeros}
 use Rattle.cut_trial.proofs.model.Model.new.Goals as goal
 
-pub loop-preserved : goal.loop-preserved
-loop-preserved c = filled_more c.loop.counter _ _ _ blank_zeros c.loop.invariant c.in_ok-push.ensures.items
+pub returns : goal.returns
+returns c = c.in_ok-sectors.ensures.items_if_clones_equal (λ y h. same_from_all_zip _ _ y h.whole (λ a b e. e)) ∙ ap (λ (x : List ℕ). replicate 48 x) blank_zeros

@@ -1,16 +1,14 @@
-use Rattle.std.proofs.Common.{inl, inr, rules}
-use Rattle.device.proofs.Steps.{disks}
+use Rattle.std.proofs.Common.{rules, inl, inr}
+use Rattle.device.proofs.Steps.{disks, failed}
 use Rattle.file_disk.specs.declared.disk.FileDisk.{FileDisk}
-use Rattle.file_disk.proofs.Broken.{took_then_broke}
+use Rattle.file_disk.proofs.Broken.{by_done, took_then_broke}
 use Rattle.file_disk.proofs.disk.FileDiskDisk.write.Goals as goal
 
-pub returns-in_default : goal.returns-in_default
-returns-in_default g c = search (rules, disks)
+pub returns-in_err-place-clause-does : goal.returns-in_err-place-clause-does
+returns-in_err-place-clause-does g c = search (rules, disks, failed)
 
-pub returns-in-Ok : goal.returns-in-Ok
-returns-in-Ok g c = search (rules, disks)
-
-pub returns-in-Err : goal.returns-in-Err
-returns-in-Err g c =
-    let m : FileDisk g.row.F.Denot = record { file = c.write_at.new.self; broken = c.args.self.now.broken } in
-    elim c.in-Err.ensures [ inl h ↦ search (rules, disks) | inr h ↦ record { does = took_then_broke m (search rules) (search rules); refused = search rules } ]
+pub returns-clause-does : goal.returns-clause-does
+returns-clause-does g c =
+    let m : FileDisk g.row.F.Denot = record { file = c.write_at-done.new.self; broken = c.start.new.self.broken } in
+    by_done c.write_at-done.result c.write_at-done.ensures c.answer.ensures.cases (λ _ p x. search (rules, disks, p, x))
+    (λ _ p x. elim p [ inl h ↦ search (rules, disks, failed, h, x) | inr h ↦ took_then_broke m (search (rules, x)) (search (rules, h)) (search (rules, x)) ])

@@ -1,10 +1,10 @@
 use Rattle.std.proofs.Common.{rules}
-use Rattle.device.proofs.Steps.{disks}
-use Rattle.memory_disk.proofs.Requests.{broke-after, it_gives}
+use Rattle.device.proofs.Steps.{disks, failed}
+use Rattle.memory_disk.proofs.Requests.{giving_err, it_gives}
 use Rattle.memory_disk.proofs.disk.MemoryDiskDisk.read.Goals as goal
 
-pub returns-then-not-counts : goal.returns-then-not-counts
-returns-then-not-counts c = search (rules, disks, broke-after)
+pub returns-in_err-count-clause-does : goal.returns-in_err-count-clause-does
+returns-in_err-count-clause-does c = search (rules, disks, failed, giving_err)
 
-pub returns : goal.returns
-returns c = search (rules, disks, it_gives, c.if-not-counts.ensures)
+pub returns-clause-does : goal.returns-clause-does
+returns-clause-does c = search (rules, disks, it_gives, c.in_ok-count.ensures.counted)
