@@ -11,6 +11,7 @@ ghost use Rattle.house.specs.Places.{place_of, refusal_for};
 mod input;
 
 use anyhow::anyhow;
+use arguments::two;
 use input::next_line;
 use lines::hex;
 use lines::line::{Line, LineError, parse};
@@ -49,27 +50,19 @@ impl Place {
     }
 }
 
-const USAGE: &str = "usage: house NUMBER HOUSES, with 3 to 49 houses and a number below that";
+fn usage() -> anyhow::Error {
+    anyhow!("usage: house NUMBER HOUSES, with 3 to 49 houses and a number below that")
+}
 
-fn arguments(rt: &HostRuntime) -> anyhow::Result<Place> {
+// Which house this is, by the command line.
+fn named(rt: &HostRuntime) -> anyhow::Result<Place> {
     let mut words = env::args(rt)?;
     let _program = words.next();
-    let Some(me) = words.next() else {
-        return Err(anyhow!("{USAGE}"));
-    };
-    let Some(houses) = words.next() else {
-        return Err(anyhow!("{USAGE}"));
-    };
+    let (me, houses) = two(&mut words).ok_or_else(usage)?;
     if words.next().is_some() {
-        return Err(anyhow!("{USAGE}"));
+        return Err(usage());
     }
-    let (Ok(me), Ok(houses)) = (me.parse::<u8>(), houses.parse::<u8>()) else {
-        return Err(anyhow!("{USAGE}"));
-    };
-    match Place::new(me, houses) {
-        Some(place) => Ok(place),
-        None => Err(anyhow!("{USAGE}")),
-    }
+    Place::new(me, houses).ok_or_else(usage)
 }
 
 // What a call is answered: nothing is kept yet, so each is refused.
@@ -125,10 +118,12 @@ fn obey<W: Write>(
 }
 
 fn run(rt: &HostRuntime) -> anyhow::Result<()> {
-    let place = arguments(rt)?;
-    let Ok(_device) = OpenOptions::new().read(true).write(true).open(rt, "device") else {
-        return Err(anyhow!("the file `device` cannot be opened in this folder"));
-    };
+    let place = named(rt)?;
+    let _device = OpenOptions::new()
+        .read(true)
+        .write(true)
+        .open(rt, "device")
+        .map_err(|_| anyhow!("the file `device` cannot be opened in this folder"))?;
     let mut input = BufReader::new(rt.alloc(), rt.stdin())?;
     let mut out = rt.stdout();
 
