@@ -2,7 +2,7 @@
 use Rattle.std.proofs.Common.{◌≡◌, ℕ, zero, suc, ◌+◌, ◌*◌, ◌^◌, ◌<◌, ◌≤◌, T, ltb, List, [], ◌∷◌, ◌++◌, length, get_or, take, drop, sym, refl, ap, ◌∙◌, subst, append_assoc, lt_of_lt_of_le, mul-le-mul_right, pow-suc, arith, ltb→lt, lt→ltb, length-append, length-drop, take-append-drop, length-take}
 use Rattle.std.proofs.lemmas.List.{take_at, drop_at, drop-drop, drop_all}
 use Rattle.disks.specs.Device.{all_bytes}
-use Rattle.octets.specs.Numbers.{big_from, big, bytes_of, field, numbers_bytes, small}
+use Rattle.octets.specs.Numbers.{big_from, big, bytes_of, field, fields, numbers_bytes, small}
 use Rattle.octets.proofs.Numbers.{length-bytes_of, big-bytes_of, bytes_of-big, first_byte, both, join}
 
 pub first_small : (n : ℕ) (ns : List ℕ) → T (small (n ∷ ns)) → (n < 2 ^ 64) × T (small ns)
@@ -24,10 +24,18 @@ field_at zero (n ∷ ns) rest h l =
 field_at (suc i) (n ∷ ns) rest h l =
     rw append_assoc (ap (field i) (drop_at (bytes_of 8 n) (numbers_bytes ns ++ rest) 8 (length-bytes_of 8 n)) ∙ field_at i ns rest (first_small n ns h).1 (omega arith))
 
--- so many numbers off the front
-abbrev pub fields : ℕ → List ℕ → List ℕ
-fields zero bs = []
-fields (suc j) bs = big (take 8 bs) ∷ fields j (drop 8 bs)
+-- each of them is the field at its place
+pub field_in : (n i : ℕ) (bs : List ℕ) → i < n → get_or (fields n bs) i 0 ≡ field i bs
+field_in zero i bs h = absurd (omega arith)
+field_in (suc n) zero bs h = refl
+field_in (suc n) (suc i) bs h = field_in n i (drop 8 bs) (omega arith)
+
+-- one number more
+pub fields_more : (j : ℕ) (bs : List ℕ) → fields (suc j) bs ≡ fields j bs ++ big (take 8 (drop (8 * j) bs)) ∷ []
+fields_more zero bs = refl
+fields_more (suc j) bs =
+    let further : 8 * suc j ≡ 8 + 8 * j = omega arith in
+    ap (λ (xs : List ℕ). big (take 8 bs) ∷ xs) (fields_more j (drop 8 bs) ∙ ap (λ (xs : List ℕ). fields j (drop 8 bs) ++ big (take 8 xs) ∷ []) (drop-drop (8 * j) 8 bs ∙ ap (λ (k : ℕ). drop k bs) (sym further)))
 
 pub bytes_drop : (k : ℕ) (bs : List ℕ) → T (all_bytes bs) → T (all_bytes (drop k bs))
 bytes_drop zero bs h = h

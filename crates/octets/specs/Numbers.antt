@@ -21,6 +21,11 @@ abbrev pub field : ℕ → List ℕ → ℕ
 field zero bs = big (take 8 bs)
 field (suc i) bs = field i (drop 8 bs)
 
+-- so many numbers off the front, each of 8 bytes
+abbrev pub fields : ℕ → List ℕ → List ℕ
+fields zero bs = []
+fields (suc j) bs = big (take 8 bs) ∷ fields j (drop 8 bs)
+
 -- numbers, each in 8 bytes
 abbrev pub numbers_bytes : List ℕ → List ℕ
 numbers_bytes ns = flat_map (bytes_of 8) ns

@@ -1,6 +1,6 @@
 // Numbers and sectors off the front of a byte string.
-ghost use Rattle.std.specs.Prelude.{◌≡◌, ◌+◌, ◌<◌, ◌≤◌, length, take, drop, MatchOption, ◌≢◌};
-ghost use Rattle.octets.specs.Numbers.{big, field};
+ghost use Rattle.std.specs.Prelude.{◌≡◌, ◌+◌, ◌*◌, ◌<◌, ◌≤◌, length, take, drop, MatchOption, ◌≢◌};
+ghost use Rattle.octets.specs.Numbers.{big, fields};
 
 use crate::SECTOR_BYTES;
 
@@ -8,60 +8,47 @@ use crate::SECTOR_BYTES;
 pub fn number(bytes: &[u8]) -> Option<(u64, &[u8])>
     ensures { MatchOption result (length bytes.now < 8) (λ p. (p.0 ≡ big (take 8 bytes.now)) × (p.1.now ≡ drop 8 bytes.now) × (length p.1.now + 8 ≡ length bytes.now)) }
 {
-    let Some((first, rest)) = bytes.split_first_chunk::<8>() else {
-        return None;
-    };
+    let (first, rest) = bytes.split_first_chunk::<8>()?;
     Some((u64::from_be_bytes(*first), rest))
 }
 
-// The one number that these bytes are.
-pub fn one(bytes: &[u8]) -> Option<u64>
-    ensures { MatchOption result (length bytes.now ≢ 8) (λ n. (length bytes.now ≡ 8) × (n ≡ field 0 bytes.now)) }
+// Fills `out` with numbers from the front, and says what follows them.
+fn fill<'a>(out: &mut [u64], bytes: &'a [u8]) -> Option<&'a [u8]>
+    ensures { MatchOption result (length bytes.now < 8 * length out.old) (λ rest. (out.new ≡ fields (length out.old) bytes.now) × (rest.now ≡ drop (8 * length out.old) bytes.now) × (length rest.now + 8 * length out.old ≡ length bytes.now)) }
 {
-    let Some((n, rest)) = number(bytes) else {
-        return None;
-    };
+    let mut rest = bytes;
+    for slot in out.iter_mut() {
+        let (n, after) = number(rest)?;
+        *slot = n;
+        rest = after;
+    }
+    Some(rest)
+}
+
+// The `N` numbers that these bytes begin with, and what follows them.
+pub fn numbers<const N: usize>(bytes: &[u8]) -> Option<([u64; N], &[u8])>
+    ensures { MatchOption result (length bytes.now < 8 * N) (λ p. (p.0 ≡ fields N bytes.now) × (p.1.now ≡ drop (8 * N) bytes.now) × (length p.1.now + 8 * N ≡ length bytes.now)) }
+{
+    let mut out = [0; N];
+    let rest = fill(&mut out, bytes)?;
+    Some((out, rest))
+}
+
+// The `N` numbers that these bytes are.
+pub fn exactly<const N: usize>(bytes: &[u8]) -> Option<[u64; N]>
+    ensures { MatchOption result (length bytes.now ≢ 8 * N) (λ ns. (length bytes.now ≡ 8 * N) × (ns ≡ fields N bytes.now)) }
+{
+    let mut out = [0; N];
+    let rest = fill(&mut out, bytes)?;
     if !rest.is_empty() {
         return None;
     }
-    Some(n)
-}
-
-// The two numbers that these bytes are.
-pub fn two(bytes: &[u8]) -> Option<(u64, u64)>
-    ensures { MatchOption result (length bytes.now ≢ 16) (λ p. (length bytes.now ≡ 16) × (p.0 ≡ field 0 bytes.now) × (p.1 ≡ field 1 bytes.now)) }
-{
-    let Some((a, rest)) = number(bytes) else {
-        return None;
-    };
-    let Some(b) = one(rest) else {
-        return None;
-    };
-    Some((a, b))
-}
-
-// The three numbers that these bytes begin with, and what follows them.
-pub fn three(bytes: &[u8]) -> Option<(u64, u64, u64, &[u8])>
-    ensures { MatchOption result (length bytes.now < 24) (λ p. (p.0 ≡ field 0 bytes.now) × (p.1 ≡ field 1 bytes.now) × (p.2 ≡ field 2 bytes.now) × (p.3.now ≡ drop 24 bytes.now) × (length p.3.now + 24 ≡ length bytes.now)) }
-{
-    let Some((a, rest)) = number(bytes) else {
-        return None;
-    };
-    let Some((b, rest)) = number(rest) else {
-        return None;
-    };
-    let Some((c, rest)) = number(rest) else {
-        return None;
-    };
-    Some((a, b, c, rest))
+    Some(out)
 }
 
 // The sector that these bytes are.
 pub fn sector(bytes: &[u8]) -> Option<&[u8; SECTOR_BYTES]>
     ensures { MatchOption result (length bytes.now ≢ 512) (λ s. (length bytes.now ≡ 512) × (s.now ≡ bytes.now)) }
 {
-    let Ok(s) = <&[u8; SECTOR_BYTES]>::try_from(bytes) else {
-        return None;
-    };
-    Some(s)
+    <&[u8; SECTOR_BYTES]>::try_from(bytes).ok()
 }

@@ -15,12 +15,12 @@ use Rattle.wire.specs.Refusals.{refusal_number}
 abbrev pub the_call : Typed → Call
 the_call (typed.Make z) = Make z.0
 the_call (typed.Attach v) = Attach v.0
-the_call (typed.Read v t n) = Read v.0 t.0 n.0
-the_call (typed.Write v t n b) = Write v.0 t.0 n.0 b.now
-the_call (typed.Sync v t) = Sync v.0 t.0
-the_call (typed.Picture v t) = Picture' v.0 t.0
+the_call (typed.Read h n) = Read h.volume.0 h.token.0 n.0
+the_call (typed.Write h n b) = Write h.volume.0 h.token.0 n.0 b.now
+the_call (typed.Sync h) = Sync h.volume.0 h.token.0
+the_call (typed.Picture h) = Picture' h.volume.0 h.token.0
 the_call (typed.Copy p) = Copy p.0
-the_call (typed.Drop v t) = Drop v.0 t.0
+the_call (typed.Drop h) = Drop h.volume.0 h.token.0
 the_call (typed.DropPicture p) = DropPicture p.0
 
 abbrev pub kind_for : Call → Kind

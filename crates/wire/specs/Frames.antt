@@ -1,8 +1,10 @@
 -- A frame on a line: how many bytes follow in 4 bytes, the customer's number in 8, then a call or an answer.
 -- Assumes nothing.
-use Rattle.std.specs.Prelude.{ℕ, ◌+◌, cond, List, ◌++◌, length, take, drop, nat_lt}
-use Rattle.wire.specs.declared.frame.Framed.{Framed}
-use Rattle.wire.specs.declared.frame.Framed.TheVariants as typed
+use Rattle.std.specs.Prelude.{ℕ, ◌+◌, cond, List, ◌++◌, length, take, drop, nat_lt, Result, Ok, Err}
+use Rattle.std.specs.Borrow.{Bor}
+use Rattle.wire.specs.declared.frame.Frame.{Frame}
+use Rattle.wire.specs.declared.frame.NoFrame.{NoFrame}
+use Rattle.wire.specs.declared.frame.NoFrame.TheVariants as none
 use Rattle.octets.specs.Numbers.{big, bytes_of}
 
 abbrev pub frame_bytes : (customer : ℕ) → List ℕ → List ℕ
@@ -27,7 +29,7 @@ abbrev pub framed : List ℕ → Frames
 framed bs = cond (nat_lt (length bs) 4) short (framed_as (big (take 4 bs)) (drop 4 bs))
 
 -- what the code's value stands for
-abbrev pub the_frames : Framed → Frames
-the_frames (typed.Whole f a) = whole f.customer.0 f.body.now a.now
-the_frames typed.Short = short
-the_frames typed.Broken = broken
+abbrev pub the_frames : Result (Frame × Bor (List ℕ)) NoFrame → Frames
+the_frames (Ok p) = whole p.0.customer.0 p.0.body.now p.1.now
+the_frames (Err none.Short) = short
+the_frames (Err none.Broken) = broken

@@ -25,13 +25,12 @@ pub enum Answer<'a> {
 
 impl<'a> Answer<'a> {
     // The answer that these bytes are.
+    #[tactic(auto, using(crate::proofs::AnswerBytes::answers_sound))]
     pub fn decode(bytes: &'a [u8]) -> Option<Answer<'a>>
         ensures value { option_map the_reply result ≡ answered_by bytes.now }
         ensures sound { AnswerBytesSound }
     {
-        let Some((first, rest)) = bytes.split_first() else {
-            return None;
-        };
+        let (first, rest) = bytes.split_first()?;
         parse(*first, rest)
     }
 
@@ -42,7 +41,7 @@ impl<'a> Answer<'a> {
         match *self {
             Answer::Refused(refusal) => {
                 let mut out = message(heap, 0, &[])?;
-                out.push(refusal.number())?;
+                out.push(u8::from(refusal))?;
                 Ok(out)
             }
             Answer::Yes => message(heap, 1, &[]),
@@ -58,42 +57,23 @@ impl<'a> Answer<'a> {
     }
 }
 
-// The answer of this number that the bytes behind it spell.
+// The answer of this number that the bytes behind it spell. An enum of the numbers would be no plainer: each stands here and in `encode`, and nowhere else.
 fn parse<'a>(number: u8, bytes: &'a [u8]) -> Option<Answer<'a>>
     ensures { option_map the_reply result ≡ answered_as number bytes.now }
 {
     match number {
         0 => refused(bytes),
-        1 => {
-            let [] = bytes else {
-                return None;
-            };
-            Some(Answer::Yes)
-        }
+        1 => bytes.is_empty().then_some(Answer::Yes),
         2 => {
-            let Some(n) = one(bytes) else {
-                return None;
-            };
+            let [n] = exactly::<1>(bytes)?;
             Some(Answer::Number(n))
         }
         3 => {
-            let Some((token, size)) = two(bytes) else {
-                return None;
-            };
+            let [token, size] = exactly::<2>(bytes)?;
             Some(Answer::Token(Token(token), Size(size)))
         }
-        4 => {
-            let Some(content) = sector(bytes) else {
-                return None;
-            };
-            Some(Answer::Sector(content))
-        }
-        5 => {
-            let [] = bytes else {
-                return None;
-            };
-            Some(Answer::Full)
-        }
+        4 => Some(Answer::Sector(sector(bytes)?)),
+        5 => bytes.is_empty().then_some(Answer::Full),
         _ => None,
     }
 }
@@ -105,8 +85,6 @@ fn refused<'a>(bytes: &[u8]) -> Option<Answer<'a>>
     let [number] = bytes else {
         return None;
     };
-    let Some(refusal) = Refusal::of(*number) else {
-        return None;
-    };
+    let refusal = Refusal::try_from(*number).ok()?;
     Some(Answer::Refused(refusal))
 }

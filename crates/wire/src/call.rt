@@ -1,6 +1,6 @@
 // A customer's call, and its bytes.
 ghost use Rattle.std.specs.Prelude.{◌≡◌, IfOk};
-ghost use Rattle.wire.specs.Calls.{the_call, call_bytes, decoded, outcome, parsed, parsed_as};
+ghost use Rattle.wire.specs.Calls.{the_call, call_bytes, decoded, outcome, kind_for, parsed, parsed_as};
 ghost use Rattle.wire.specs.Kinds.{is_built};
 ghost use Rattle.wire.specs.Promises.{CallBytesSound};
 
@@ -16,59 +16,78 @@ use std::alloc::{AllocError, Global};
 pub enum Call<'a> {
     Make(Size),
     Attach(Volume),
-    Read(Volume, Token, Sector),
-    Write(Volume, Token, Sector, &'a [u8; SECTOR_BYTES]),
-    Sync(Volume, Token),
-    Picture(Volume, Token),
+    Read(Hold, Sector),
+    Write(Hold, Sector, &'a [u8; SECTOR_BYTES]),
+    Sync(Hold),
+    Picture(Hold),
     Copy(Picture),
-    Drop(Volume, Token),
+    Drop(Hold),
     DropPicture(Picture),
 }
 
 impl<'a> Call<'a> {
     // The call that these bytes are, or why they are refused. A write's sector is handed on as a part of the bytes.
+    #[tactic(auto, using(crate::proofs::CallBytes::calls_sound))]
     pub fn decode(bytes: &'a [u8]) -> Result<Call<'a>, Refusal>
         ensures value { outcome result ≡ decoded is_built bytes.now }
         ensures sound { CallBytesSound }
     {
-        let Some(Tagged { kind, rest }) = Tagged::read(bytes) else {
-            return Err(Refusal::Malformed);
-        };
+        let Tagged { kind, rest } = Tagged::read(bytes).ok_or(Refusal::Malformed)?;
         if !kind.is_built() {
             return Err(Refusal::NotBuilt);
         }
-        let Some(call) = parse(kind, rest) else {
-            return Err(Refusal::Malformed);
-        };
-        Ok(call)
+        parse(kind, rest).ok_or(Refusal::Malformed)
     }
 
     pub fn encode(&self, heap: Global) -> Result<Vec<u8>, AllocError>
         ensures { IfOk result (λ v. v.items ≡ call_bytes (the_call self.now)) }
     {
+        let kind = u8::from(self.kind());
         match *self {
-            Call::Make(size) => message(heap, Kind::Make.number(), &[size.0]),
-            Call::Attach(volume) => message(heap, Kind::Attach.number(), &[volume.0]),
-            Call::Read(volume, token, sector) => message(
+            Call::Make(size) => message(heap, kind, &[size.0]),
+            Call::Attach(volume) => message(heap, kind, &[volume.0]),
+            Call::Read(hold, sector) => message(
                 heap,
-                Kind::Read.number(),
-                &[volume.0, token.0, sector.0],
+                kind,
+                &[hold.volume.0, hold.token.0, sector.0],
             ),
-            Call::Write(volume, token, sector, content) => {
-                let mut out = message(heap, Kind::Write.number(), &[volume.0, token.0, sector.0])?;
+            Call::Write(hold, sector, content) => {
+                let mut out = message(heap, kind, &[hold.volume.0, hold.token.0, sector.0])?;
                 out.extend_from_slice(content)?;
                 Ok(out)
             }
-            Call::Sync(volume, token) => message(heap, Kind::Sync.number(), &[volume.0, token.0]),
-            Call::Picture(volume, token) => message(
+            Call::Sync(hold) | Call::Picture(hold) | Call::Drop(hold) => message(
                 heap,
-                Kind::Picture.number(),
-                &[volume.0, token.0],
+                kind,
+                &[hold.volume.0, hold.token.0],
             ),
-            Call::Copy(picture) => message(heap, Kind::Copy.number(), &[picture.0]),
-            Call::Drop(volume, token) => message(heap, Kind::Drop.number(), &[volume.0, token.0]),
-            Call::DropPicture(picture) => message(heap, Kind::DropPicture.number(), &[picture.0]),
+            Call::Copy(picture) | Call::DropPicture(picture) => message(heap, kind, &[picture.0]),
         }
+    }
+
+    pub fn kind(&self) -> Kind
+        ensures { result ≡ kind_for (the_call self.now) }
+    {
+        match *self {
+            Call::Make(_) => Kind::Make,
+            Call::Attach(_) => Kind::Attach,
+            Call::Read(_, _) => Kind::Read,
+            Call::Write(_, _, _) => Kind::Write,
+            Call::Sync(_) => Kind::Sync,
+            Call::Picture(_) => Kind::Picture,
+            Call::Copy(_) => Kind::Copy,
+            Call::Drop(_) => Kind::Drop,
+            Call::DropPicture(_) => Kind::DropPicture,
+        }
+    }
+}
+
+const fn hold(volume: u64, token: u64) -> Hold
+    ensures { result ≡ record { volume = record { 0 = volume }; token = record { 0 = token } } }
+{
+    Hold {
+        volume: Volume(volume),
+        token: Token(token),
     }
 }
 
@@ -78,60 +97,40 @@ fn parse<'a>(kind: Kind, bytes: &'a [u8]) -> Option<Call<'a>>
 {
     match kind {
         Kind::Make => {
-            let Some(size) = one(bytes) else {
-                return None;
-            };
+            let [size] = exactly::<1>(bytes)?;
             Some(Call::Make(Size(size)))
         }
         Kind::Attach => {
-            let Some(volume) = one(bytes) else {
-                return None;
-            };
+            let [volume] = exactly::<1>(bytes)?;
             Some(Call::Attach(Volume(volume)))
         }
         Kind::Read => {
-            let Some((volume, token, sector, [])) = three(bytes) else {
-                return None;
-            };
-            Some(Call::Read(Volume(volume), Token(token), Sector(sector)))
+            let [volume, token, sector] = exactly::<3>(bytes)?;
+            Some(Call::Read(hold(volume, token), Sector(sector)))
         }
         Kind::Write => {
-            let Some((volume, token, at, rest)) = three(bytes) else {
-                return None;
-            };
-            let Some(content) = sector(rest) else {
-                return None;
-            };
-            Some(Call::Write(Volume(volume), Token(token), Sector(at), content))
+            let ([volume, token, at], rest) = numbers::<3>(bytes)?;
+            let content = sector(rest)?;
+            Some(Call::Write(hold(volume, token), Sector(at), content))
         }
         Kind::Sync => {
-            let Some((volume, token)) = two(bytes) else {
-                return None;
-            };
-            Some(Call::Sync(Volume(volume), Token(token)))
+            let [volume, token] = exactly::<2>(bytes)?;
+            Some(Call::Sync(hold(volume, token)))
         }
         Kind::Picture => {
-            let Some((volume, token)) = two(bytes) else {
-                return None;
-            };
-            Some(Call::Picture(Volume(volume), Token(token)))
+            let [volume, token] = exactly::<2>(bytes)?;
+            Some(Call::Picture(hold(volume, token)))
         }
         Kind::Copy => {
-            let Some(picture) = one(bytes) else {
-                return None;
-            };
+            let [picture] = exactly::<1>(bytes)?;
             Some(Call::Copy(Picture(picture)))
         }
         Kind::Drop => {
-            let Some((volume, token)) = two(bytes) else {
-                return None;
-            };
-            Some(Call::Drop(Volume(volume), Token(token)))
+            let [volume, token] = exactly::<2>(bytes)?;
+            Some(Call::Drop(hold(volume, token)))
         }
         Kind::DropPicture => {
-            let Some(picture) = one(bytes) else {
-                return None;
-            };
+            let [picture] = exactly::<1>(bytes)?;
             Some(Call::DropPicture(Picture(picture)))
         }
     }

@@ -6,7 +6,7 @@ ghost use Rattle.wire.specs.Promises.{FrameBytesSound};
 
 use crate::number::Customer;
 use octets::reader::number;
-use octets::writer::{put_length, put_number};
+use octets::writer::Number;
 use std::alloc::{AllocError, Global};
 
 #[derive(Clone, Copy)]
@@ -15,18 +15,16 @@ pub struct Frame<'a> {
     pub body: &'a [u8],
 }
 
-// What bytes begin with.
-#[derive(Clone, Copy)]
-pub enum Framed<'a> {
-    // a frame, and what follows it
-    Whole(Frame<'a>, &'a [u8]),
+// Why bytes begin with no frame.
+#[derive(Clone, Copy, PartialEq, Eq)]
+pub enum NoFrame {
     // less than a frame: more must come
     Short,
     // too short for a customer's number: nothing that follows can be read
     Broken,
 }
 
-// Why there is no frame.
+// Why no frame can be made.
 #[derive(Clone, Copy, PartialEq, Eq)]
 pub enum FrameError {
     // its length does not fit 4 bytes
@@ -43,43 +41,29 @@ impl From<AllocError> for FrameError {
 }
 
 impl<'a> Frame<'a> {
-    // The frame that these bytes begin with.
-    pub fn decode(bytes: &'a [u8]) -> Framed<'a>
+    // The frame that these bytes begin with, and what follows it.
+    #[tactic(auto, using(crate::proofs::FrameBytes::frames_sound))]
+    pub fn decode(bytes: &'a [u8]) -> Result<(Frame<'a>, &'a [u8]), NoFrame>
         ensures value { the_frames result ≡ framed bytes.now }
         ensures sound { FrameBytesSound }
     {
-        let Some((first, rest)) = bytes.split_first_chunk::<4>() else {
-            return Framed::Short;
-        };
+        let (first, rest) = bytes.split_first_chunk::<4>().ok_or(NoFrame::Short)?;
+        // `usize` has no `From<u32>`, and `try_from` would add an error that never comes.
         let length = u32::from_be_bytes(*first) as usize;
-        if rest.len() < length {
-            return Framed::Short;
-        }
-        let (frame, after) = rest.split_at(length);
-        let Some((customer, body)) = number(frame) else {
-            return Framed::Broken;
-        };
-        Framed::Whole(
-            Frame {
-                customer: Customer(customer),
-                body,
-            },
-            after,
-        )
+        let (frame, after) = rest.split_at_checked(length).ok_or(NoFrame::Short)?;
+        let (customer, body) = number(frame).ok_or(NoFrame::Broken)?;
+        let customer = Customer(customer);
+        Ok((Frame { customer, body }, after))
     }
 
     pub fn encode(&self, heap: Global) -> Result<Vec<u8>, FrameError>
         ensures { MatchResult result (λ v. v.items ≡ frame_bytes self.now.customer.0 self.now.body.now) (λ e. e ≡ TooLong → 4294967296 ≤ 8 + length self.now.body.now) }
     {
-        let Ok(length) = u32::try_from(self.body.len()) else {
-            return Err(FrameError::TooLong);
-        };
-        let Some(length) = length.checked_add(8) else {
-            return Err(FrameError::TooLong);
-        };
+        let length = u32::try_from(self.body.len()).map_err(|_| FrameError::TooLong)?;
+        let length = length.checked_add(8).ok_or(FrameError::TooLong)?;
         let mut out = Vec::new(heap);
-        put_length(&mut out, length)?;
-        put_number(&mut out, self.customer.0)?;
+        length.put(&mut out)?;
+        self.customer.0.put(&mut out)?;
         out.extend_from_slice(self.body)?;
         Ok(out)
     }

@@ -1,6 +1,9 @@
 // A call's kind: the first of its bytes.
 ghost use Rattle.std.specs.Prelude.{◌≡◌, drop, Some, None, MatchOption};
 ghost use Rattle.wire.specs.Kinds.{number_of, kind_of, kind_in, is_built};
+ghost use Rattle.std.specs.Option.{ok_or};
+
+use crate::number::Unknown;
 
 // The kinds with their numbers.
 #[derive(Clone, Copy, PartialEq, Eq)]
@@ -16,31 +19,36 @@ pub enum Kind {
     DropPicture = 9,
 }
 
-impl Kind {
-    // The kind that has this number.
-    pub fn of(number: u8) -> Option<Kind>
-        ensures { result ≡ kind_of number }
-    {
+impl TryFrom<u8> for Kind {
+    type Error = Unknown;
+
+    ghost try_from_gives = { λ n r. r ≡ ok_or (kind_of n) (record { 0 = n }) };
+
+    fn try_from(number: u8) -> Result<Kind, Unknown> {
         match number {
-            1 => Some(Kind::Make),
-            2 => Some(Kind::Attach),
-            3 => Some(Kind::Read),
-            4 => Some(Kind::Write),
-            5 => Some(Kind::Sync),
-            6 => Some(Kind::Picture),
-            7 => Some(Kind::Copy),
-            8 => Some(Kind::Drop),
-            9 => Some(Kind::DropPicture),
-            _ => None,
+            1 => Ok(Kind::Make),
+            2 => Ok(Kind::Attach),
+            3 => Ok(Kind::Read),
+            4 => Ok(Kind::Write),
+            5 => Ok(Kind::Sync),
+            6 => Ok(Kind::Picture),
+            7 => Ok(Kind::Copy),
+            8 => Ok(Kind::Drop),
+            9 => Ok(Kind::DropPicture),
+            _ => Err(Unknown(number)),
         }
     }
+}
 
-    pub fn number(self) -> u8
-        ensures { result ≡ number_of self }
-    {
-        self as u8
+impl From<Kind> for u8 {
+    ghost from_gives = { λ k n. n ≡ number_of k };
+
+    fn from(kind: Kind) -> u8 {
+        kind as u8
     }
+}
 
+impl Kind {
     // The one table of what is built so far.
     pub fn is_built(self) -> bool
         ensures { result ≡ is_built self }
@@ -63,12 +71,8 @@ impl<'a> Tagged<'a> {
     pub fn read(bytes: &'a [u8]) -> Option<Tagged<'a>>
         ensures { MatchOption result (kind_in bytes.now ≡ None) (λ t. (kind_in bytes.now ≡ Some t.kind) × (t.rest.now ≡ drop 1 bytes.now)) }
     {
-        let Some((first, rest)) = bytes.split_first() else {
-            return None;
-        };
-        let Some(kind) = Kind::of(*first) else {
-            return None;
-        };
+        let (first, rest) = bytes.split_first()?;
+        let kind = Kind::try_from(*first).ok()?;
         Some(Tagged { kind, rest })
     }
 }

@@ -1,29 +1,47 @@
-// Numbers that must not be mixed, each a type of its own.
+// Numbers that must not be mixed, each a type of its own, and those of them that go together.
 
 // A volume's number, given once.
-#[derive(Clone, Copy, PartialEq, Eq)]
+#[derive(Clone, Copy, PartialEq, Eq, PartialOrd, Ord)]
 pub struct Volume(pub u64);
 
 // The number under which a volume may be used; the last one given counts, and 0 is nobody's.
-#[derive(Clone, Copy, PartialEq, Eq)]
+#[derive(Clone, Copy, PartialEq, Eq, PartialOrd, Ord)]
 pub struct Token(pub u64);
 
 // A sector of a volume, from 0.
-#[derive(Clone, Copy, PartialEq, Eq)]
+#[derive(Clone, Copy, PartialEq, Eq, PartialOrd, Ord)]
 pub struct Sector(pub u64);
 
 // A picture's number, from the same row as volumes' numbers.
-#[derive(Clone, Copy, PartialEq, Eq)]
+#[derive(Clone, Copy, PartialEq, Eq, PartialOrd, Ord)]
 pub struct Picture(pub u64);
 
 // A volume's size in sectors.
-#[derive(Clone, Copy, PartialEq, Eq)]
+#[derive(Clone, Copy, PartialEq, Eq, PartialOrd, Ord)]
 pub struct Size(pub u64);
 
 // The number under which a customer made a call, used once.
-#[derive(Clone, Copy, PartialEq, Eq)]
+#[derive(Clone, Copy, PartialEq, Eq, PartialOrd, Ord)]
 pub struct Customer(pub u64);
 
 // A house, from 0.
-#[derive(Clone, Copy, PartialEq, Eq)]
+#[derive(Clone, Copy, PartialEq, Eq, PartialOrd, Ord)]
 pub struct House(pub u8);
+
+// A volume, and the token that its customer shows for it.
+#[derive(Clone, Copy, PartialEq, Eq)]
+pub struct Hold {
+    pub volume: Volume,
+    pub token: Token,
+}
+
+// One sector of one volume.
+#[derive(Clone, Copy, PartialEq, Eq, PartialOrd, Ord)]
+pub struct Address {
+    pub volume: Volume,
+    pub sector: Sector,
+}
+
+// A number that no kind of call, or no refusal, has.
+#[derive(Clone, Copy, PartialEq, Eq)]
+pub struct Unknown(pub u8);

@@ -1,6 +1,9 @@
 // Why a call is refused: the numbers that customers are told.
 ghost use Rattle.std.specs.Prelude.{◌≡◌};
 ghost use Rattle.wire.specs.Refusals.{refusal_number, refusal_of};
+ghost use Rattle.std.specs.Option.{ok_or};
+
+use crate::number::Unknown;
 
 #[derive(Clone, Copy, PartialEq, Eq)]
 pub enum Refusal {
@@ -18,24 +21,28 @@ pub enum Refusal {
     NotBuilt = 12,
 }
 
-impl Refusal {
-    pub fn of(number: u8) -> Option<Refusal>
-        ensures { result ≡ refusal_of number }
-    {
+impl TryFrom<u8> for Refusal {
+    type Error = Unknown;
+
+    ghost try_from_gives = { λ n r. r ≡ ok_or (refusal_of n) (record { 0 = n }) };
+
+    fn try_from(number: u8) -> Result<Refusal, Unknown> {
         match number {
-            1 => Some(Refusal::Malformed),
-            2 => Some(Refusal::Missing),
-            4 => Some(Refusal::OldToken),
-            8 => Some(Refusal::UsedUp),
-            11 => Some(Refusal::Busy),
-            12 => Some(Refusal::NotBuilt),
-            _ => None,
+            1 => Ok(Refusal::Malformed),
+            2 => Ok(Refusal::Missing),
+            4 => Ok(Refusal::OldToken),
+            8 => Ok(Refusal::UsedUp),
+            11 => Ok(Refusal::Busy),
+            12 => Ok(Refusal::NotBuilt),
+            _ => Err(Unknown(number)),
         }
     }
+}
 
-    pub fn number(self) -> u8
-        ensures { result ≡ refusal_number self }
-    {
-        self as u8
+impl From<Refusal> for u8 {
+    ghost from_gives = { λ e n. n ≡ refusal_number e };
+
+    fn from(refusal: Refusal) -> u8 {
+        refusal as u8
     }
 }

@@ -1,6 +1,7 @@
 use Rattle.std.proofs.Common.{◌≡◌, ℕ, ◌+◌, List, [], ◌++◌, length, ap, ◌∙◌, append_assoc, arith}
 use Rattle.octets.specs.Numbers.{bytes_of}
 use Rattle.wire.specs.Frames.{frame_bytes}
+use Rattle.std.proofs.lemmas.Grind.{common_steps}
 use Rattle.wire.proofs.frame.Frame.encode.Goals as goal
 
 -- three parts put one behind the other, the first the length of the others
@@ -10,5 +11,5 @@ in_three n z body ws xs ys zs e f g h k =
 
 pub returns : goal.returns
 returns c =
-    in_three c.args.self.now.customer.0 c.in-Some.length c.args.self.now.body.now _ _ _ _ (omega (arith, c.in-Ok.ensures, c.in-Some.ensures)) c.new-out.ensures.items c.in_ok-put_length.ensures
-    c.in_ok-put_number.ensures c.in_ok-extend_from_slice.ensures.items
+    in_three c.args.self.now.customer.0 c.in_ok-length-2.length c.args.self.now.body.now _ _ _ _ (grind (arith, common_steps, c.in_ok-length.ensures.cases, c.in_ok-length-2.ensures.value)) c.new-out.ensures.items c.in_ok-put.ensures
+    c.in_ok-put-2.ensures c.in_ok-extend_from_slice.ensures.items
