@@ -39,7 +39,7 @@ fn print_digits(rt: &HostRuntime, content: &[u8]) -> io::Result<()> {
 fn print_answer(rt: &HostRuntime, bytes: &[u8]) -> io::Result<()> {
     match Answer::decode(bytes) {
         Some(Answer::Refused(refusal)) => {
-            let n = refusal.number();
+            let n = u8::from(refusal);
             println!(rt; "refused {n}")
         }
         Some(Answer::Yes) => println!(rt; "yes"),

@@ -5,7 +5,7 @@ ghost use Rattle.rehearse.specs.Scripts.{InRange, error_text};
 use lines::decimal::decimal;
 use lines::hex;
 use octets::SECTOR_BYTES;
-use octets::writer::{message, put_number};
+use octets::writer::{Number, message};
 use std::alloc::{AllocError, AllocFailed, Global};
 use std::fmt;
 use std::str::SplitWhitespace;
@@ -135,9 +135,9 @@ fn of_numbers(
     count: u8,
     words: &mut SplitWhitespace,
 ) -> Result<Vec<u8>, ScriptError> {
-    let mut bytes = message(heap, kind.number(), &[])?;
+    let mut bytes = message(heap, u8::from(kind), &[])?;
     for _ in 0..count {
-        put_number(&mut bytes, number(words)?)?;
+        number(words)?.put(&mut bytes)?;
     }
     Ok(bytes)
 }

@@ -1,4 +1,4 @@
-use Rattle.std.proofs.Common.{rules, ap, subst, drop, length, All, ◌≢◌, sym, arith}
+use Rattle.std.proofs.Common.{rules, ℕ, List, ap, subst, drop, length, All, ◌≢◌, sym, arith}
 use Rattle.std.specs.Io.{StopsAt}
 use Rattle.house.proofs.Pieces.{known_whole, known_long, stripped}
 use Rattle.house.proofs.input.next_line.Goals as goal
@@ -10,7 +10,7 @@ returns-then-len-gt-MAX_LINE-clause-read g c =
 pub returns-clause-one : goal.returns-clause-one
 returns-clause-one g c =
     let all = ap (λ l. drop (length l) c.read_until.new.buf.items) c.new-line.ensures.items in
-    subst (All (λ b. b ≢ 10)) (sym c.strip_end.ensures) (stripped _ (subst (λ l. StopsAt l 10) all c.read_until.ensures.stops))
+    subst (All (λ b. b ≢ 10)) (sym {A = List ℕ} c.strip_end.ensures) (stripped _ (subst (λ l. StopsAt l 10) all c.read_until.ensures.stops))
 
 pub returns-clause-read : goal.returns-clause-read
 returns-clause-read g c =
