@@ -11,9 +11,10 @@ ghost use Rattle.house.specs.Places.{place_of, refusal_for};
 mod input;
 
 use anyhow::anyhow;
-use input::{Buffer, next_line};
+use arguments::two;
+use input::next_line;
 use lines::hex;
-use lines::line::{Line, parse};
+use lines::line::{Line, LineError, parse};
 use std::fs::OpenOptions;
 use std::io::{BufReader, Write};
 use std::{env, io};
@@ -49,27 +50,19 @@ impl Place {
     }
 }
 
-const USAGE: &str = "usage: house NUMBER HOUSES, with 3 to 49 houses and a number below that";
+fn usage() -> anyhow::Error {
+    anyhow!("usage: house NUMBER HOUSES, with 3 to 49 houses and a number below that")
+}
 
-fn arguments(rt: &HostRuntime) -> anyhow::Result<Place> {
+// Which house this is, by the command line.
+fn named(rt: &HostRuntime) -> anyhow::Result<Place> {
     let mut words = env::args(rt)?;
     let _program = words.next();
-    let Some(me) = words.next() else {
-        return Err(anyhow!("{USAGE}"));
-    };
-    let Some(houses) = words.next() else {
-        return Err(anyhow!("{USAGE}"));
-    };
+    let (me, houses) = two(&mut words).ok_or_else(usage)?;
     if words.next().is_some() {
-        return Err(anyhow!("{USAGE}"));
+        return Err(usage());
     }
-    let (Ok(me), Ok(houses)) = (me.parse::<u8>(), houses.parse::<u8>()) else {
-        return Err(anyhow!("{USAGE}"));
-    };
-    match Place::new(me, houses) {
-        Some(place) => Ok(place),
-        None => Err(anyhow!("{USAGE}")),
-    }
+    Place::new(me, houses).ok_or_else(usage)
 }
 
 // What a call is answered: nothing is kept yet, so each is refused.
@@ -97,39 +90,49 @@ fn print_response<W: Write>(rt: &HostRuntime, out: &mut W, response: &Response) 
     writeln!(out, "")
 }
 
+// What a line tells, if it was read.
+fn told(
+    rt: &HostRuntime,
+    place: Place,
+    line: Result<Vec<u8>, LineError>,
+) -> Result<Line, LineError> {
+    parse(rt.alloc(), line?.as_slice(), place.houses)
+}
+
 // Prints what a line leads to.
-fn obey<W: Write>(rt: &HostRuntime, out: &mut W, place: Place, line: &Buffer) -> io::Result<()> {
-    if line.spoiled {
-        return writeln!(out, "refused 1");
-    }
-    match parse(rt.alloc(), line.bytes.as_slice(), place.houses) {
+fn obey<W: Write>(
+    rt: &HostRuntime,
+    out: &mut W,
+    place: Place,
+    line: Result<Vec<u8>, LineError>,
+) -> io::Result<()> {
+    match told(rt, place, line) {
         Ok(Line::Ask(customer, call)) => print_response(
             rt,
             out,
             &respond(customer, call.as_slice()),
         ),
-        Ok(Line::From(_, _)) => Ok(()),
-        Ok(Line::Tick) => Ok(()),
+        Ok(Line::From(_, _) | Line::Tick) => Ok(()),
         Err(_) => writeln!(out, "refused 1"),
     }
 }
 
 fn run(rt: &HostRuntime) -> anyhow::Result<()> {
-    let place = arguments(rt)?;
-    let Ok(_device) = OpenOptions::new().read(true).write(true).open(rt, "device") else {
-        return Err(anyhow!("the file `device` cannot be opened in this folder"));
-    };
+    let place = named(rt)?;
+    let _device = OpenOptions::new()
+        .read(true)
+        .write(true)
+        .open(rt, "device")
+        .map_err(|_| anyhow!("the file `device` cannot be opened in this folder"))?;
     let mut input = BufReader::new(rt.alloc(), rt.stdin())?;
     let mut out = rt.stdout();
-    let mut line = Buffer {
-        bytes: Vec::new(rt.alloc()),
-        spoiled: false,
-    };
+
+    // A count, since each loop has to end: an iterator of its own would have to carry one.
     for _ in 0..u64::MAX {
-        if !next_line(&mut input, &mut line)? {
+        let Some(line) = next_line(rt.alloc(), &mut input)? else {
             break;
-        }
-        obey(rt, &mut out, place, &line)?;
+        };
+        obey(rt, &mut out, place, line)?;
         writeln!(out, "done")?;
         out.flush()?;
     }

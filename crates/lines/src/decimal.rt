@@ -6,13 +6,11 @@ ghost use Rattle.lines.specs.Decimals.{with_digit, decimal_of};
 fn with_digit(n: u64, digit: u8) -> Option<u64>
     ensures { result ≡ with_digit n digit }
 {
-    if digit < b'0' || digit > b'9' {
-        return None;
-    }
-    let Some(tens) = n.checked_mul(10) else {
-        return None;
+    let units = match digit {
+        b'0'..=b'9' => digit - b'0',
+        _ => return None,
     };
-    tens.checked_add((digit - b'0') as u64)
+    n.checked_mul(10)?.checked_add(u64::from(units))
 }
 
 // The number of 64 bits that these digits spell.
@@ -24,10 +22,7 @@ pub fn decimal(digits: &[u8]) -> Option<u64>
     }
     let mut n: u64 = 0;
     for digit in digits {
-        let Some(next) = with_digit(n, *digit) else {
-            return None;
-        };
-        n = next;
+        n = with_digit(n, *digit)?;
     }
     Some(n)
 }

@@ -21,25 +21,20 @@ fn value(digit: u8) -> Option<u8>
 fn byte(high: u8, low: u8) -> Option<u8>
     ensures { result ≡ byte_in (digit_of high) (digit_of low) }
 {
-    let Some(h) = value(high) else {
-        return None;
-    };
-    let Some(l) = value(low) else {
-        return None;
-    };
-    Some(h * 16 + l)
+    Some(value(high)? * 16 + value(low)?)
 }
 
 // The bytes that these digits spell, if they spell any.
 pub fn decode(heap: Global, text: &[u8]) -> Result<Option<Vec<u8>>, AllocError>
     ensures { IfOk result (λ o. option_map vec_items o ≡ bytes_in text.now) }
 {
-    if text.len() % 2 != 0 {
+    let (pairs, odd) = text.as_chunks::<2>();
+    if !odd.is_empty() {
         return Ok(None);
     }
     let mut out = Vec::new(heap);
-    for i in 0..text.len() / 2 {
-        let Some(b) = byte(text[2 * i], text[2 * i + 1]) else {
+    for [high, low] in pairs {
+        let Some(b) = byte(*high, *low) else {
             return Ok(None);
         };
         out.push(b)?;
@@ -56,6 +51,7 @@ fn digit(n: u8) -> u8
 }
 
 // The digits that spell these bytes, in lower case.
+#[tactic(auto, using(crate::proofs::Steps::hex_round_trip))]
 pub fn encode(heap: Global, bytes: &[u8]) -> Result<Vec<u8>, AllocError>
     ensures made { IfOk result (λ v. v.items ≡ hex_of bytes.now) }
     ensures back { HexRoundTrip }

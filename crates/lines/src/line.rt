@@ -39,30 +39,18 @@ impl From<AllocError> for LineError {
 fn cut(text: &[u8]) -> Option<(&[u8], &[u8])>
     ensures { option_map the_parts result ≡ cut_at text.now }
 {
-    for (i, b) in text.iter().enumerate() {
-        if *b == b' ' {
-            return Some((&text[0..i], &text[i + 1..]));
-        }
-    }
-    None
-}
-
-fn is_word(text: &[u8], word: &[u8]) -> bool
-    ensures { result ≡ bytes_eq text.now word.now }
-{
-    text == word
+    let i = text.iter().position(|&b| b == b' ')?;
+    Some((&text[..i], &text[i + 1..]))
 }
 
 // The line that this text is, at a house among so many.
 pub fn parse(heap: Global, text: &[u8], houses: u8) -> Result<Line, LineError>
     ensures { MatchResult result (λ l. line_of houses text.now ≡ Some (the_line l)) (λ e. e ≡ Malformed → line_of houses text.now ≡ None) }
 {
-    if is_word(text, b"tick") {
+    if text == b"tick".as_slice() {
         return Ok(Line::Tick);
     }
-    let Some((word, rest)) = cut(text) else {
-        return Err(LineError::Malformed);
-    };
+    let (word, rest) = cut(text).ok_or(LineError::Malformed)?;
     command(heap, word, rest, houses)
 }
 
@@ -70,20 +58,12 @@ pub fn parse(heap: Global, text: &[u8], houses: u8) -> Result<Line, LineError>
 fn command(heap: Global, word: &[u8], rest: &[u8], houses: u8) -> Result<Line, LineError>
     ensures { MatchResult result (λ l. argued houses word.now (cut_at rest.now) ≡ Some (the_line l)) (λ e. e ≡ Malformed → argued houses word.now (cut_at rest.now) ≡ None) }
 {
-    let Some((digits, text)) = cut(rest) else {
-        return Err(LineError::Malformed);
-    };
-    let Some(n) = decimal(digits) else {
-        return Err(LineError::Malformed);
-    };
-    let Some(bytes) = hex::decode(heap, text)? else {
-        return Err(LineError::Malformed);
-    };
-    if is_word(word, b"ask") {
-        return Ok(Line::Ask(Customer(n), bytes));
+    let (digits, text) = cut(rest).ok_or(LineError::Malformed)?;
+    let n = decimal(digits).ok_or(LineError::Malformed)?;
+    let bytes = hex::decode(heap, text)?.ok_or(LineError::Malformed)?;
+    match (word, u8::try_from(n)) {
+        (b"ask", _) => Ok(Line::Ask(Customer(n), bytes)),
+        (b"from", Ok(house)) if house < houses => Ok(Line::From(House(house), bytes)),
+        _ => Err(LineError::Malformed),
     }
-    if is_word(word, b"from") && n < houses as u64 {
-        return Ok(Line::From(House(n as u8), bytes));
-    }
-    Err(LineError::Malformed)
 }

@@ -6,7 +6,7 @@ mod script;
 use lines::hex;
 use octets::SECTOR_BYTES;
 use place::one_place::OnePlace;
-use script::{LEAST_HOUSES, LEAST_SECTORS, ScriptError, Step, parse};
+use script::{LEAST_HOUSES, LEAST_SECTORS, Step, parse};
 use std::io;
 use wire::answer::Answer;
 
@@ -19,12 +19,11 @@ struct Rehearsal {
 // A sector in words: its byte where all are the same, else all of it.
 fn print_sector(rt: &HostRuntime, content: &[u8; SECTOR_BYTES]) -> io::Result<()> {
     let first = content[0];
-    for b in content {
-        if *b != first {
-            return print_digits(rt, content);
-        }
+    if content.iter().all(|b| *b == first) {
+        println!(rt; "sector {first:02x}")
+    } else {
+        print_digits(rt, content)
     }
-    println!(rt; "sector {first:02x}")
 }
 
 fn print_digits(rt: &HostRuntime, content: &[u8]) -> io::Result<()> {
@@ -40,7 +39,7 @@ fn print_digits(rt: &HostRuntime, content: &[u8]) -> io::Result<()> {
 fn print_answer(rt: &HostRuntime, bytes: &[u8]) -> io::Result<()> {
     match Answer::decode(bytes) {
         Some(Answer::Refused(refusal)) => {
-            let n = refusal.number();
+            let n = u8::from(refusal);
             println!(rt; "refused {n}")
         }
         Some(Answer::Yes) => println!(rt; "yes"),
@@ -56,26 +55,20 @@ fn print_answer(rt: &HostRuntime, bytes: &[u8]) -> io::Result<()> {
     }
 }
 
-// Plays one line; a line that is none is reported with its number.
-fn play(rt: &HostRuntime, rehearsal: &mut Rehearsal, at: u64, line: &str) -> io::Result<()> {
-    let heap = rt.alloc();
-    match parse(heap, line) {
-        Ok(Step::Nothing) => Ok(()),
-        Ok(Step::Network) => println!(rt; "line {at}: not played yet"),
-        Ok(Step::Houses(houses, sectors)) => {
+// Plays one step.
+fn play(rt: &HostRuntime, rehearsal: &mut Rehearsal, at: u64, step: Step) -> io::Result<()> {
+    match step {
+        Step::Network => println!(rt; "line {at}: not played yet"),
+        Step::Houses(houses, sectors) => {
             rehearsal.houses = houses;
-            rehearsal.place = OnePlace::new(heap, sectors)?;
+            rehearsal.place = OnePlace::new(rt.alloc(), sectors)?;
             Ok(())
         }
-        Ok(Step::At(house, call)) => {
-            if house >= rehearsal.houses {
-                return println!(rt; "line {at}: no such house");
-            }
-            let answer = rehearsal.place.answer(heap, call.as_slice())?;
+        Step::At(house, _) if house >= rehearsal.houses => println!(rt; "line {at}: no such house"),
+        Step::At(_, call) => {
+            let answer = rehearsal.place.answer(rt.alloc(), call.as_slice())?;
             print_answer(rt, answer.as_slice())
         }
-        Err(ScriptError::Unknown) => println!(rt; "line {at}: not understood"),
-        Err(ScriptError::Memory) => println!(rt; "line {at}: no memory"),
     }
 }
 
@@ -85,10 +78,14 @@ fn run(rt: &HostRuntime) -> anyhow::Result<()> {
         houses: LEAST_HOUSES,
         place,
     };
-    let mut at: u64 = 0;
-    for line in rt.lines(rt.alloc()) {
-        at = at.saturating_add(1);
-        play(rt, &mut rehearsal, at, line?.as_str())?;
+    for (at, line) in (1u64..).zip(rt.lines(rt.alloc())) {
+        match parse(rt.alloc(), line?.as_str()) {
+            Ok(None) => {}
+            Ok(Some(step)) => play(rt, &mut rehearsal, at, step)?,
+
+            // Reported with its number.
+            Err(error) => println!(rt; "line {at}: {error}")?,
+        }
     }
     Ok(())
 }

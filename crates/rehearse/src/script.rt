@@ -1,12 +1,13 @@
 // A script's lines, in words.
-ghost use Rattle.std.specs.Prelude.{IfOk};
-ghost use Rattle.rehearse.specs.Scripts.{InRange};
+ghost use Rattle.std.specs.Prelude.{IfOk, IfSome, Some};
+ghost use Rattle.rehearse.specs.Scripts.{InRange, error_text};
 
 use lines::decimal::decimal;
 use lines::hex;
 use octets::SECTOR_BYTES;
-use octets::writer::{message, put_number};
+use octets::writer::{Number, message};
 use std::alloc::{AllocError, AllocFailed, Global};
+use std::fmt;
 use std::str::SplitWhitespace;
 use wire::kind::Kind;
 
@@ -19,6 +20,7 @@ pub const LEAST_SECTORS: u64 = 65_536;
 
 pub const MOST_SECTORS: u64 = 1_099_511_627_776;
 
+// What a line tells to do.
 #[derive(Drop)]
 pub enum Step {
     // so many houses, each with a device of so many sectors
@@ -27,13 +29,24 @@ pub enum Step {
     At(u64, Vec<u8>),
     // what happens to packets, clocks and power: not played yet
     Network,
-    Nothing,
 }
 
+// Why a line tells no step.
 #[derive(Clone, Copy)]
 pub enum ScriptError {
     Unknown,
     Memory,
+}
+
+impl fmt::Display for ScriptError {
+    ghost output = { λ e. Some (error_text e) };
+
+    fn fmt<W: fmt::Write>(&self, f: &mut fmt::Formatter<W>) -> fmt::Result {
+        f.write_str(match self {
+            ScriptError::Unknown => "not understood",
+            ScriptError::Memory => "no memory",
+        })
+    }
 }
 
 impl From<AllocError> for ScriptError {
@@ -48,26 +61,25 @@ impl<T: Drop> From<AllocFailed<T>> for ScriptError {
     }
 }
 
-// The step that a line tells.
-pub fn parse(heap: Global, line: &str) -> Result<Step, ScriptError>
-    ensures { IfOk result InRange }
+// The step that a line tells, if it has any word.
+pub fn parse(heap: Global, line: &str) -> Result<Option<Step>, ScriptError>
+    ensures { IfOk result (λ step. IfSome step InRange) }
 {
     let mut words = line.split_whitespace();
     let Some(first) = words.next() else {
-        return Ok(Step::Nothing);
+        return Ok(None);
     };
-    match first {
-        "houses" => houses(&mut words),
-        "at" => {
-            let house = number(&mut words)?;
-            let bytes = call(heap, &mut words)?;
-            if words.next().is_some() {
-                return Err(ScriptError::Unknown);
-            }
-            Ok(Step::At(house, bytes))
-        }
-        "pass" | "lose" | "twice" | "tick" | "cut" | "up" | "seed" => Ok(Step::Network),
-        _ => Err(ScriptError::Unknown),
+    let step = match first {
+        "houses" => houses(&mut words)?,
+        "at" => at(heap, &mut words)?,
+        "pass" | "lose" | "twice" | "tick" | "cut" | "up" | "seed" => return Ok(Some(
+            Step::Network,
+        )),
+        _ => return Err(ScriptError::Unknown),
+    };
+    match words.next() {
+        None => Ok(Some(step)),
+        Some(_) => Err(ScriptError::Unknown),
     }
 }
 
@@ -76,43 +88,35 @@ fn houses(words: &mut SplitWhitespace) -> Result<Step, ScriptError>
 {
     let houses = number(words)?;
     let sectors = number(words)?;
-    if houses < LEAST_HOUSES
-        || houses > MOST_HOUSES
-        || sectors < LEAST_SECTORS
-        || sectors > MOST_SECTORS
-    {
-        return Err(ScriptError::Unknown);
+    match (houses, sectors) {
+        (LEAST_HOUSES..=MOST_HOUSES, LEAST_SECTORS..=MOST_SECTORS) => Ok(Step::Houses(
+            houses, sectors,
+        )),
+        _ => Err(ScriptError::Unknown),
     }
-    if words.next().is_some() {
-        return Err(ScriptError::Unknown);
-    }
-    Ok(Step::Houses(houses, sectors))
+}
+
+fn at(heap: Global, words: &mut SplitWhitespace) -> Result<Step, ScriptError>
+    ensures { IfOk result InRange }
+{
+    Ok(Step::At(number(words)?, call(heap, words)?))
 }
 
 // The next word as a number.
 fn number(words: &mut SplitWhitespace) -> Result<u64, ScriptError> {
-    let Some(word) = words.next() else {
-        return Err(ScriptError::Unknown);
-    };
-    match decimal(word.as_bytes()) {
-        Some(n) => Ok(n),
-        None => Err(ScriptError::Unknown),
-    }
+    let word = words.next().ok_or(ScriptError::Unknown)?;
+    decimal(word.as_bytes()).ok_or(ScriptError::Unknown)
 }
 
 // The call that the next words tell, as bytes.
 fn call(heap: Global, words: &mut SplitWhitespace) -> Result<Vec<u8>, ScriptError> {
-    let Some(kind) = words.next() else {
-        return Err(ScriptError::Unknown);
-    };
-    match kind {
+    match words.next().ok_or(ScriptError::Unknown)? {
         "make" => of_numbers(heap, Kind::Make, 1, words),
         "attach" => of_numbers(heap, Kind::Attach, 1, words),
         "read" => of_numbers(heap, Kind::Read, 3, words),
         "write" => {
             let mut bytes = of_numbers(heap, Kind::Write, 3, words)?;
-            let content = content(heap, words)?;
-            bytes.extend_from_slice(content.as_slice())?;
+            bytes.extend_from_slice(content(heap, words)?.as_slice())?;
             Ok(bytes)
         }
         "sync" => of_numbers(heap, Kind::Sync, 2, words),
@@ -131,27 +135,20 @@ fn of_numbers(
     count: u8,
     words: &mut SplitWhitespace,
 ) -> Result<Vec<u8>, ScriptError> {
-    let mut bytes = message(heap, kind.number(), &[])?;
+    let mut bytes = message(heap, u8::from(kind), &[])?;
     for _ in 0..count {
-        let n = number(words)?;
-        put_number(&mut bytes, n)?;
+        number(words)?.put(&mut bytes)?;
     }
     Ok(bytes)
 }
 
 // A sector of one byte, in two digits, or a whole one.
 fn content(heap: Global, words: &mut SplitWhitespace) -> Result<Vec<u8>, ScriptError> {
-    let Some(word) = words.next() else {
-        return Err(ScriptError::Unknown);
-    };
-    let Some(bytes) = hex::decode(heap, word.as_bytes())? else {
-        return Err(ScriptError::Unknown);
-    };
-    if bytes.len() == SECTOR_BYTES {
-        return Ok(bytes);
+    let word = words.next().ok_or(ScriptError::Unknown)?;
+    let bytes = hex::decode(heap, word.as_bytes())?.ok_or(ScriptError::Unknown)?;
+    match bytes.as_slice() {
+        [byte] => Ok(Vec::from_elem(heap, *byte, SECTOR_BYTES)?),
+        whole if whole.len() == SECTOR_BYTES => Ok(bytes),
+        _ => Err(ScriptError::Unknown),
     }
-    if bytes.len() != 1 {
-        return Err(ScriptError::Unknown);
-    }
-    Ok(Vec::from_elem(heap, bytes[0], SECTOR_BYTES)?)
 }

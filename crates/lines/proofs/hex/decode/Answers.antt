@@ -1,23 +1,23 @@
-use Rattle.std.proofs.Common.{◌+◌, ◌*◌, drop, Some, None, vec_items, sym, ap, ◌∙◌, arith}
-use Rattle.lines.specs.Hexes.{bytes_in}
-use Rattle.lines.proofs.Steps.{behind, byte_more, behind-none, behind_more, behind_all, odd_none}
+use Rattle.std.proofs.Common.{rules, Some, None, vec_items, sym, ap, ◌∙◌, arith}
+use Rattle.lines.proofs.Steps.{behind, bytes_of, read_pairs, pair_more, behind-none, behind_more, behind_all, odd_none}
 use Rattle.lines.proofs.hex.decode.Goals as goal
 
-pub returns-then-text-ne0 : goal.returns-then-text-ne0
-returns-then-text-ne0 c = sym (odd_none c.args.text.now c.if-text-ne0.true)
+pub returns-then-not-is_empty : goal.returns-then-not-is_empty
+returns-then-not-is_empty c = sym (odd_none c.args.text.now (search rules))
 
-pub loop-i-init : goal.loop-i-init
-loop-i-init c = behind-none _ (bytes_in c.args.text.now) c.new-out.ensures.items
+pub loop-high-init : goal.loop-high-init
+loop-high-init c = behind-none _ (bytes_of c.as_chunks.result.0.now) c.new-out.ensures.items
 
 pub returns-in_default : goal.returns-in_default
 returns-in_default c =
-    let read = byte_more c.args.text.now c.loop-i.i None (omega arith) (sym c.in_default.ensures) in
-    sym (c.loop-i.invariant ∙ ap (behind (vec_items c.loop-i.out)) read)
+    let read = pair_more c.as_chunks.result.0.now c.loop-high.high-index None (omega arith) (sym c.in_default.ensures) in
+    sym (read_pairs c.args.text.now _ (search rules) c.as_chunks.ensures.front ∙ c.loop-high.invariant ∙ ap (behind (vec_items c.loop-high.out)) read)
 
-pub loop-i-preserved : goal.loop-i-preserved
-loop-i-preserved c =
-    let read = byte_more c.args.text.now c.loop-i.i (Some c.in-Some.b) (omega arith) (sym c.in-Some.ensures) in
-    c.loop-i.invariant ∙ ap (behind (vec_items c.loop-i.out)) read ∙ behind_more (vec_items c.loop-i.out) (vec_items c.push.new.self) c.in-Some.b (bytes_in (drop (2 * (c.loop-i.i + 1)) c.args.text.now)) c.in_ok-push.ensures.items
+pub loop-high-preserved : goal.loop-high-preserved
+loop-high-preserved c =
+    let read = pair_more c.as_chunks.result.0.now c.loop-high.high-index (Some c.in-Some.b) (omega arith) (sym c.in-Some.ensures) in
+    c.loop-high.invariant ∙ ap (behind (vec_items c.loop-high.out)) read ∙ behind_more (vec_items c.loop-high.out) (vec_items c.push.new.self) c.in-Some.b _ c.in_ok-push.ensures.items
 
 pub returns : goal.returns
-returns c = sym (c.loop-i.invariant ∙ behind_all c.args.text.now (vec_items c.loop-i.out) (2 * c.loop-i.i) (omega arith))
+returns c =
+    sym (read_pairs c.args.text.now _ (search rules) c.as_chunks.ensures.front ∙ c.loop-high.invariant ∙ behind_all c.as_chunks.result.0.now (vec_items c.loop-high.out) c.loop-high.high-index (omega arith))
