@@ -4,15 +4,16 @@
 mod model;
 
 use anyhow::{Context, anyhow};
+use arguments::two;
+use device::disk::Failed;
 use device::get::get;
 use device::open::open;
 use device::put::put;
-use journal::state::{Got, Journal, Opened, Outcome, Write};
+use journal::state::{Journal, Write};
 use memory_disk::MemoryDisk;
 use memory_disk::random::Random;
 use model::{Model, PLAYED, transaction};
 use std::alloc::Global;
-use std::env::Args;
 use std::{env, fmt};
 
 const SIZE: u64 = 4096;
@@ -71,10 +72,10 @@ impl Trial {
     // Whether the device shows the array with these writes done.
     fn shows(&mut self, journal: &Journal, writes: &[Write]) -> anyhow::Result<bool> {
         for i in 0..PLAYED {
-            let got = get(journal, &mut self.disk, Model::place(i));
-            match got.map_err(|_| anyhow!("a read failed"))? {
-                Got::Sector(bytes) if self.model.holds(i, writes, &bytes) => {}
-                _ => return Ok(false),
+            match get(journal, &mut self.disk, Model::place(i)) {
+                Ok(bytes) if self.model.holds(i, writes, &bytes) => {}
+                Ok(_) | Err(Failed::Refused(_)) => return Ok(false),
+                Err(Failed::Disk(_)) => return Err(anyhow!("a read failed")),
             }
         }
         Ok(true)
@@ -88,9 +89,9 @@ impl Trial {
                 self.disk.fail_after(n);
             }
             match open(&mut self.disk, SIZE) {
-                Ok(Opened::Ready(journal)) => return Ok(journal),
-                Ok(Opened::Foreign) => return Err(anyhow!("{REFUSED}")),
-                Err(_) => {
+                Ok(journal) => return Ok(journal),
+                Err(Failed::Refused(_)) => return Err(anyhow!("{REFUSED}")),
+                Err(Failed::Disk(_)) => {
                     count(&mut self.counts.cut_opening);
                     self.fail();
                 }
@@ -126,12 +127,12 @@ impl Trial {
                 continue;
             }
             match put(journal, &mut self.disk, writes.as_slice()) {
-                Ok(Outcome::Done) => {
+                Ok(()) => {
                     count(&mut self.counts.done);
                     self.model.put(writes.as_slice());
                 }
-                Ok(Outcome::Refused(_)) => return Err(anyhow!("{REFUSED}")),
-                Err(_) => {
+                Err(Failed::Refused(_)) => return Err(anyhow!("{REFUSED}")),
+                Err(Failed::Disk(_)) => {
                     count(&mut self.counts.cut_putting);
                     return Ok(writes);
                 }
@@ -142,21 +143,15 @@ impl Trial {
     }
 }
 
-// The next word, if it is a number.
-fn number(words: &mut Args) -> Option<u64> {
-    words.next()?.parse().ok()
-}
-
-fn arguments(rt: &HostRuntime) -> anyhow::Result<(u64, u64)> {
+// The seed and how many cuts, by the command line.
+fn asked(rt: &HostRuntime) -> anyhow::Result<(u64, u64)> {
     let mut words = env::args(rt)?;
     let _program = words.next();
-    let seed = number(&mut words).context(USAGE)?;
-    let cuts = number(&mut words).context(USAGE)?;
-    Ok((seed, cuts))
+    two(&mut words).context(USAGE)
 }
 
 fn run(rt: &HostRuntime) -> anyhow::Result<()> {
-    let (seed, cuts) = arguments(rt)?;
+    let (seed, cuts) = asked(rt)?;
     let heap = rt.alloc();
     let mut trial = Trial {
         disk: MemoryDisk::new(heap, SIZE),

@@ -2,18 +2,17 @@
 #![tactic(auto)]
 
 use anyhow::{Context, anyhow};
+use arguments::two;
 use device::disk::{Disk, Fault};
 use device::open::open;
 use device::put::put;
 use file_disk::disk::FileDisk;
-use journal::state::{Opened, Outcome, Write};
+use journal::state::Write;
 use journal::{GUARDED, MOST_WRITES, Place};
 use octets::BLANK_SECTOR;
 use std::alloc::{AllocError, Global};
 use std::env;
-use std::env::Args;
 use std::fs::{File, OpenOptions};
-use std::str::FromStr;
 
 const SIZE: u64 = 4096;
 
@@ -22,19 +21,11 @@ const USAGE: &str =
 
 const FAILED: &str = "the device failed";
 
-// The next word, if it is a number of this type.
-fn number<T: FromStr>(words: &mut Args) -> Option<T>
-where
-    T::Err: Drop,
-{
-    words.next()?.parse().ok()
-}
-
-fn arguments(rt: &HostRuntime) -> anyhow::Result<(u8, u64)> {
+// How many sectors and how often, by the command line.
+fn asked(rt: &HostRuntime) -> anyhow::Result<(u8, u64)> {
     let mut words = env::args(rt)?;
     let _program = words.next();
-    let sectors = number::<u8>(&mut words).context(USAGE)?;
-    let times = number::<u64>(&mut words).context(USAGE)?;
+    let (sectors, times): (u8, u64) = two(&mut words).context(USAGE)?;
     if usize::from(sectors) > MOST_WRITES {
         return Err(anyhow!("{USAGE}"));
     }
@@ -52,18 +43,14 @@ fn bare(disk: &mut FileDisk<File>, times: u64) -> Result<(), Fault> {
 
 // Transactions of these writes, so many times.
 fn transactions(disk: &mut FileDisk<File>, writes: &[Write], times: u64) -> anyhow::Result<()> {
-    let Opened::Ready(mut journal) = open(disk, SIZE).map_err(failed)? else {
-        return Err(anyhow!("{FAILED}"));
-    };
+    let mut journal = open(disk, SIZE).map_err(failed)?;
     for _ in 0..times {
-        let Outcome::Done = put(&mut journal, disk, writes).map_err(failed)? else {
-            return Err(anyhow!("{FAILED}"));
-        };
+        put(&mut journal, disk, writes).map_err(failed)?;
     }
     Ok(())
 }
 
-fn failed(_: Fault) -> anyhow::Error {
+fn failed<E: Drop>(_: E) -> anyhow::Error {
     anyhow!("{FAILED}")
 }
 
@@ -78,7 +65,7 @@ fn blank_writes(heap: Global, sectors: u8) -> Result<Vec<Write>, AllocError> {
 }
 
 fn run(rt: &HostRuntime) -> anyhow::Result<()> {
-    let (sectors, times) = arguments(rt)?;
+    let (sectors, times) = asked(rt)?;
     let file = OpenOptions::new()
         .read(true)
         .write(true)

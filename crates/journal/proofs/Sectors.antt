@@ -1,24 +1,17 @@
 -- Sectors of the journal as they are read: the numbers in them, and the half that each carries.
-use Rattle.std.proofs.Common.{◌≡◌, ℕ, Bool, true, false, cond, ◌≢◌, List, ◌++◌, length, take, drop, sym, ap, ◌∙◌, append-nil, arith, length-drop, Some, None, Ok, Err}
+use Rattle.std.proofs.Common.{◌≡◌, ℕ, Bool, true, false, cond, ◌≢◌, List, ◌++◌, length, drop, slice_index_or, refl, sym, ap, ◌∙◌, append-nil, arith, length-drop, Some, None, Ok, Err}
 use borrow.Rule.Slice.PartMut.{mid_of, put_mid, post_of}
 use Rattle.std.proofs.lemmas.List.{take_all, drop-drop, drop_all}
 use Rattle.std.proofs.lemmas.Bool.{eq-eqb, ne_eqb}
-use Rattle.octets.specs.Numbers.{big, field}
+use Rattle.octets.specs.Numbers.{field, fields}
+use Rattle.octets.proofs.Fields.{fields_take}
 use Rattle.journal.specs.declared.part.Part.{Part}
 use Rattle.journal.specs.Format.{mark, part_of, is_sound, foreign, found}
 use Rattle.journal.proofs.Laid.{laid}
 
 -- the four numbers behind the mark
-pub four-read : (b rest : List ℕ) (n i l t : ℕ) → length b ≡ 512 → n ≡ field 0 (mid_of 8 504 b) → i ≡ field 1 (mid_of 8 504 b) → l ≡ field 2 (mid_of 8 504 b) → rest ≡ drop 24 (mid_of 8 504 b) → t ≡ big (take 8 rest) →
-    ◌≡◌ {A = Part} (record { number = n; index = i; length = l; target = record { 0 = t } }) (part_of b)
-four-read b rest n i l t long en ei el er et =
-    let all : mid_of 8 504 b ≡ drop 8 b = take_all 504 (drop 8 b) (simp length-drop (omega arith)) in
-    let last : rest ≡ drop 8 (drop 8 (drop 8 (drop 8 b))) = er ∙ ap (drop 24) all ∙ simp drop-drop in
-    let e1 : n ≡ field 1 b = en ∙ ap (field 0) all in
-    let e2 : i ≡ field 2 b = ei ∙ ap (field 1) all in
-    let e3 : l ≡ field 3 b = el ∙ ap (field 2) all in
-    let e4 : t ≡ field 4 b = et ∙ ap (field 0) last in
-    cc
+pub four_read : (b ns : List ℕ) → ns ≡ fields 4 (mid_of 8 32 b) → ◌≡◌ {A = Part} (record { number = slice_index_or ns 0 0; index = slice_index_or ns 1 0; length = slice_index_or ns 2 0; target = record { 0 = slice_index_or ns 3 0 } }) (part_of b)
+four_read b ns e = let read : ns ≡ fields 4 (drop 8 b) = e ∙ fields_take 4 0 (drop 8 b) in rw read refl
 
 -- one half behind the other fills a sector
 pub two_laid : (a b out xs ys : List ℕ) → length a ≡ 256 → length out ≡ 512 → xs ≡ a → ys ≡ b → put_mid 256 256 (xs ++ post_of 0 256 out) ys ≡ a ++ b

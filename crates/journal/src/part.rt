@@ -57,12 +57,10 @@ impl Part {
     pub fn read(sector: &[u8; SECTOR_BYTES]) -> Part
         ensures { result ≡ part_of sector.now }
     {
-        let Some((number, index, length, rest)) = reader::three(&sector[8..]) else {
+        let Some(numbers) = reader::exactly::<4>(&sector[8..HALF_START]) else {
             unreachable()
         };
-        let Some((target, _)) = reader::number(rest) else {
-            unreachable()
-        };
+        let [number, index, length, target] = numbers;
         Part {
             number,
             index,

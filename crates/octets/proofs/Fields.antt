@@ -1,6 +1,6 @@
 -- Numbers of 8 bytes one behind the other: each is found at its place, and those that were read spell the bytes they were read from.
 use Rattle.std.proofs.Common.{◌≡◌, ℕ, zero, suc, ◌+◌, ◌*◌, ◌^◌, ◌<◌, ◌≤◌, T, ltb, List, [], ◌∷◌, ◌++◌, length, get_or, take, drop, sym, refl, ap, ◌∙◌, subst, append_assoc, lt_of_lt_of_le, mul-le-mul_right, pow-suc, arith, ltb→lt, lt→ltb, length-append, length-drop, take-append-drop, length-take}
-use Rattle.std.proofs.lemmas.List.{take_at, drop_at, drop-drop, drop_all}
+use Rattle.std.proofs.lemmas.List.{take_at, drop_at, drop-drop, drop_all, drop-take, take-take}
 use Rattle.disks.specs.Device.{all_bytes}
 use Rattle.octets.specs.Numbers.{big_from, big, bytes_of, field, fields, numbers_bytes, small}
 use Rattle.octets.proofs.Numbers.{length-bytes_of, big-bytes_of, bytes_of-big, first_byte, both, join}
@@ -36,6 +36,15 @@ fields_more zero bs = refl
 fields_more (suc j) bs =
     let further : 8 * suc j ≡ 8 + 8 * j = omega arith in
     ap (λ (xs : List ℕ). big (take 8 bs) ∷ xs) (fields_more j (drop 8 bs) ∙ ap (λ (xs : List ℕ). fields j (drop 8 bs) ++ big (take 8 xs) ∷ []) (drop-drop (8 * j) 8 bs ∙ ap (λ (k : ℕ). drop k bs) (sym further)))
+
+-- they lie in the first bytes
+pub fields_take : (n m : ℕ) (bs : List ℕ) → fields n (take (8 * n + m) bs) ≡ fields n bs
+fields_take zero m bs = refl
+fields_take (suc n) m bs =
+    let k : 8 * suc n + m ≡ 8 + (8 * n + m) = omega arith in
+    let first : take 8 (take (8 + (8 * n + m)) bs) ≡ take 8 bs = take-take 8 (8 + (8 * n + m)) bs (omega arith) in
+    let rest : drop 8 (take (8 + (8 * n + m)) bs) ≡ take (8 * n + m) (drop 8 bs) = drop-take 8 (8 * n + m) bs in
+    rw (k, first, rest) (ap (λ (xs : List ℕ). big (take 8 bs) ∷ xs) (fields_take n m (drop 8 bs)))
 
 pub bytes_drop : (k : ℕ) (bs : List ℕ) → T (all_bytes bs) → T (all_bytes (drop k bs))
 bytes_drop zero bs h = h
