@@ -1,6 +1,6 @@
 -- What the journal asks of its device, request by request.
 -- Assumes nothing.
-use Rattle.std.specs.Prelude.{ℕ, zero, suc, ◌+◌, ◌*◌, ◌/◌, ◌%◌, Bool, true, false, cond, not, ◌&&◌, ◌||◌, List, [], ◌∷◌, ◌++◌, length, take, drop, Ok, Err, Result, ◌==◌, nat_le, nat_lt, slice_index_or}
+use Rattle.std.specs.Prelude.{ℕ, zero, suc, ◌+◌, ◌*◌, ◌/◌, ◌%◌, Bool, true, cond, not, ◌&&◌, List, [], ◌∷◌, ◌++◌, length, take, drop, Ok, Err, Result, ◌==◌, nat_le, nat_lt, slice_index_or}
 use Rattle.std.specs.List.{list_any, list_all}
 use Rattle.disks.specs.Device.{Io, answer, read, write, sync, then'}
 use Rattle.journal.specs.Format.{slot_sectors, guarded, numbers_end, part_bytes, part_of, half_of, foreign}

@@ -11,14 +11,7 @@ use Rattle.journal.specs.declared.state.Refused.TheVariants.{OutOfRange, Numbers
 use Rattle.recovery.proofs.Writing.{all_upto}
 use Rattle.recovery.proofs.Inv.{Off, On}
 use Rattle.recovery.proofs.Cutting.{rest-cut, record_cut, placed, put_on}
-
-both : (a b : Bool) → T (a && b) → T a × T b
-both true b h = (tt, h)
-both false b h = absurd h
-
-is_so : (b : Bool) → T b → b ≡ true
-is_so true h = refl
-is_so false h = absurd h
+use Rattle.recovery.proofs.Tests.{both, is_so}
 
 pub record Fine (size : ℕ) (ws : List Write) : Type 0 where
   pub one : 1 ≤ length ws

@@ -13,9 +13,10 @@ use Rattle.journal.specs.declared.state.Write.{Write}
 use Rattle.journal.specs.declared.state.Slot.{Slot}
 use Rattle.journal.specs.declared.state.Slot.TheVariants.{First, Second}
 use Rattle.journal.specs.declared.state.Journal.{Journal}
-use Rattle.recovery.proofs.Redoing.{slot_of, scan_run, redo_few}
+use Rattle.recovery.proofs.Redoing.{slot_of, scan_run, redo_few, settle_io}
 use Rattle.recovery.proofs.Opening.{opens, opens-cut}
 use Rattle.recovery.proofs.Keeping.{held}
+use Rattle.recovery.proofs.Tests.{is_so}
 
 pub count_then : {A B : Type 0} (r w s : ℕ) (p : Io A) (f : A → Io B) (d : Device) → count r w s (then' p f) d ≡ count r w s p d + count r w s (f (run p d).value) (run p d).device
 unfolding count then' run
@@ -33,10 +34,6 @@ record_long : (at n : ℕ) (ws : List Write) (i k : ℕ) → length (record_from
 unfolding record_from
 record_long at n ws i zero = refl
 record_long at n ws i (suc k) = ap suc (record_long at n ws (i + 1) k)
-
-is_so : (b : Bool) → T b → b ≡ true
-is_so true h = refl
-is_so false h = absurd h
 
 count-put : (r w s : ℕ) (j : Journal) (ws : List Write) (d : Device) → T (allowed j.size ws) → j.next < 4611686018427387904 → count r w s (put_io j ws) d ≡ w * (2 * length ws) + (s + w * length ws)
 unfolding put_io transact_io count
@@ -63,9 +60,6 @@ unfolding count replay_from
 count_replay at i zero d = refl
 count_replay at i (suc k) d =
     let h = count_replay at (i + 1) k (written (part_of (shown d (at + 2 * i))).target.0 (half_of (shown d (at + 2 * i)) ++ half_of (shown d (at + (2 * i + 1)))) d) in omega arith
-
-abbrev settle_io : Io (Unit {0})
-settle_io = sync (answer tt)
 
 count_redo : (o : Slot) (a b : Scan) (d : Device) → count 1 1 1 (redo_io o a b) d ≤ 1441
 unfolding redo_io count

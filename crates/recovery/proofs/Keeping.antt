@@ -19,10 +19,7 @@ use Rattle.recovery.proofs.Inv.{Off, On, ours_more}
 use Rattle.recovery.proofs.Cutting.{off_of, rest-cut}
 use Rattle.recovery.proofs.Opening.{opens, opens-cut}
 use Rattle.recovery.proofs.Calls.{get_run, get_refused, get_upto, put_refused, put-used-up, put_run, put-after, put-cut, put-still}
-
-both : (x y : Bool) → T x → T y → T (x && y)
-both true y h k = k
-both false y h k = h
+use Rattle.recovery.proofs.Tests.{join}
 
 -- a blank slot has nothing to do again
 blank-scan : (size : ℕ) (g : ℕ → List ℕ) (k : ℕ) → ((i : ℕ) → found size i (g i) ≡ Ok None) → (scanned size g k).whole ≡ None
@@ -93,12 +90,12 @@ module _ (size : ℕ) (fits : size ≤ 1099511627776) where
         let s : T (whole_sectors ws) = subst T (sym p) tt in
         let t : T (allowed size ws) = subst T (sym q) tt in
         let run_is = put-told ws ∙ ap told (put-used-up size a.steps a.sector j d o fits ws s t r) in
-        rw p (subst (Stepped (Put ws) a) (sym run_is) (later a, used-up ws a (both (whole_sectors ws) (allowed size ws) s t) (omega (arith, ltb-false j.next 4611686018427387904 r, o.safe.low)), on_later))
+        rw p (subst (Stepped (Put ws) a) (sym run_is) (later a, used-up ws a (join (whole_sectors ws) (allowed size ws) s t) (omega (arith, ltb-false j.next 4611686018427387904 r, o.safe.low)), on_later))
     put-stepped ws true true true p q r =
         let s : T (whole_sectors ws) = subst T (sym p) tt in
         let t : T (allowed size ws) = subst T (sym q) tt in
         let run_is = put-told ws ∙ ap told (put_run size a.steps a.sector j d o fits ws s t r) in
-        rw p (subst (Stepped (Put ws) a) (sym run_is) (put_into ws a, put ws a (both (whole_sectors ws) (allowed size ws) s t), on_more size (a.steps + 1) (suc a.steps) (λ z. last ws (a.sector z) z) (after_put j) _ (omega arith) (put-after size a.steps a.sector j d o fits ws s t r)))
+        rw p (subst (Stepped (Put ws) a) (sym run_is) (put_into ws a, put ws a (join (whole_sectors ws) (allowed size ws) s t), on_more size (a.steps + 1) (suc a.steps) (λ z. last ws (a.sector z) z) (after_put j) _ (omega arith) (put-after size a.steps a.sector j d o fits ws s t r)))
 
     stepped : (c : Call) → Stepped c a (run (call_io c (Ok j)) d)
     stepped (Get p) = get-stepped p (in_area size p.0) refl
@@ -132,7 +129,7 @@ module _ (size : ℕ) (fits : size ≤ 1099511627776) where
             let t : T (allowed size ws) = subst T (sym q) tt in
             elim (put-cut size a.steps a.sector j d o fits ws s t r e f inner cut) [
               | inl x ↦ inl (off_more size (a.steps + 1) (suc a.steps) a.sector f (omega arith) x)
-              | inr x ↦ inr (Done', put_into ws a, put ws a (both (whole_sectors ws) (allowed size ws) s t), off_more size (a.steps + 1) (suc (suc a.steps)) (λ z. last ws (a.sector z) z) f (omega arith) x)
+              | inr x ↦ inr (Done', put_into ws a, put ws a (join (whole_sectors ws) (allowed size ws) s t), off_more size (a.steps + 1) (suc (suc a.steps)) (λ z. last ws (a.sector z) z) f (omega arith) x)
             ]
 
     lost : (c : Call) (e f : Device) → Upto (call_io c (Ok j)) d e → AfterCut e f → Lost c f

@@ -1,3 +1,4 @@
+pub mod Tests
 pub mod Lasts
 pub mod Writing
 pub mod Sound

@@ -13,14 +13,7 @@ use Rattle.octets.proofs.Fields.{bytes_take, bytes_drop}
 use Rattle.recovery.proofs.Sound.{Sound, part_back, found_part, half_back, length_part, bytes-part}
 use Rattle.recovery.proofs.Writing.{Among, this, further}
 use Rattle.recovery.proofs.Lasts.{last_other}
-
-both : (a b : Bool) → T (a && b) → T a × T b
-both true b h = (tt, h)
-both false b h = absurd h
-
-is_so : (b : Bool) → T b → b ≡ true
-is_so true h = refl
-is_so false h = absurd h
+use Rattle.recovery.proofs.Tests.{both, is_so}
 
 pub area_at : (size : ℕ) (ws : List Write) (k : ℕ) → T (all_in_area size ws) → k < length ws → (960 ≤ (get_or ws k no_write).target.0) × ((get_or ws k no_write).target.0 < size)
 unfolding all_in_area

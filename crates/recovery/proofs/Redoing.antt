@@ -1,5 +1,5 @@
 -- Opening: scans only read, and doing a record again writes its sectors in place, as the record's writes would.
-use Rattle.std.proofs.Common.{◌≡◌, ℕ, zero, suc, ◌+◌, ◌*◌, ◌/◌, ◌<◌, ◌≤◌, Bool, true, false, cond, ◌&&◌, T, ltb, leb, ◌≢◌, ◌⊎◌, List, [], ◌∷◌, ◌++◌, sym, refl, ap, ◌∙◌, subst, inl, inr, add-zero, add-one, arith, le→leb, lt→ltb, ne_eqb, leb-true, Ok, Some, None, Option}
+use Rattle.std.proofs.Common.{◌≡◌, ℕ, zero, suc, ◌+◌, ◌*◌, ◌/◌, ◌<◌, ◌≤◌, Bool, true, false, cond, ◌&&◌, T, ltb, leb, ◌≢◌, ◌⊎◌, List, [], ◌∷◌, ◌++◌, sym, refl, ap, ◌∙◌, subst, inl, inr, add-zero, add-one, arith, le→leb, lt→ltb, ne_eqb, leb-true, Some, None, Option}
 use Rattle.disks.specs.Device.{Device, Io, answer, sync, run, Ran, Upto, here, reads, writes, syncs, shown, written, synced, then'}
 use Rattle.compose.proofs.Compose.{run_then, upto_then}
 use Rattle.journal.specs.Format.{part_of, half_of}
@@ -16,6 +16,7 @@ use Rattle.recovery.proofs.Writing.{alike_shown, upto_other, all_upto, written_o
 use Rattle.recovery.proofs.Sound.{found_is}
 use Rattle.recovery.proofs.Scanning.{Ours, Whole, whole_found}
 use Rattle.recovery.proofs.Mixing.{writes_in, none-writes, whole-count}
+use Rattle.recovery.proofs.Tests.{both, join, is_so}
 
 -- SCANS
 pub scan_run : (size at : ℕ) (d : Device) (i k : ℕ) → run (scan_from size at i k (scanned size (λ q. shown d (at + q)) i)) d ≡ record { value = scanned size (λ q. shown d (at + q)) (i + k); device = d }
@@ -48,18 +49,6 @@ pub upto_behind : (xs ys : List Write) (d e : Device) → Upto (write_all_io ys)
 unfolding write_all_io run
 upto_behind [] ys d e u = u
 upto_behind (x ∷ xs) ys d e u = writes (upto_behind xs ys (written x.target.0 x.bytes d) e u)
-
-both : (a b : Bool) → T (a && b) → T a × T b
-both true b h = (tt, h)
-both false b h = absurd h
-
-join : (a b : Bool) → T a → T b → T (a && b)
-join true b h k = k
-join false b h k = h
-
-is_so : (b : Bool) → T b → b ≡ true
-is_so true h = refl
-is_so false h = absurd h
 
 -- REPLAYS: as the record's writes
 module _ (size at : ℕ) (g : ℕ → List ℕ) where
@@ -144,7 +133,7 @@ slot_low : (slot : Slot) (q : ℕ) → q < 480 → base slot + q < 960
 slot_low First q l = omega arith
 slot_low Second q l = omega arith
 
-abbrev settle_io : Io (Unit {0})
+abbrev pub settle_io : Io (Unit {0})
 settle_io = sync (answer tt)
 
 -- DOING AGAIN what two slots hold, the older first

@@ -1,5 +1,5 @@
 -- What a scan of a slot comes to: it finds a record exactly where each of the record's sectors carries its number and length.
-use Rattle.std.proofs.Common.{◌≡◌, ℕ, zero, suc, ◌<◌, ◌≤◌, Bool, true, false, cond, ◌&&◌, ◌||◌, T, eqb, ltb, leb, ◌≢◌, ◌⊎◌, List, sym, refl, ap, ◌∙◌, subst, inl, inr, arith, ltb-false, ltb-true, eq-eqb, ne_eqb, eqb-true, le-leb, leb-false, leb-true, Some, None, Option, Ok, Err}
+use Rattle.std.proofs.Common.{◌≡◌, ℕ, zero, suc, ◌<◌, ◌≤◌, Bool, true, false, cond, ◌&&◌, ◌||◌, eqb, ltb, leb, ◌≢◌, ◌⊎◌, List, sym, refl, ap, ◌∙◌, subst, inl, inr, arith, ltb-false, ltb-true, eq-eqb, ne_eqb, eqb-true, le-leb, leb-false, leb-true, Some, None, Option, Ok, Err}
 use borrow.Author.Tests.{eqb-false}
 use Rattle.journal.specs.Format.{Found, found}
 use Rattle.journal.specs.Scans.{scan_start, higher, still, scan_part, scan_found, scanned}
@@ -8,6 +8,7 @@ use Rattle.journal.specs.declared.part.Foreign.{Foreign}
 use Rattle.journal.specs.declared.scan.Record.{Record}
 use Rattle.journal.specs.declared.scan.Scan.{Scan}
 use Rattle.recovery.proofs.Sound.{found_is}
+use Rattle.recovery.proofs.Tests.{both_so}
 
 -- a sector is blank, or a part of a record whose number is no higher than this
 abbrev pub Ours : (size most i : ℕ) → List ℕ → Type 0
@@ -128,10 +129,6 @@ module _ (size : ℕ) (g : ℕ → List ℕ) where
     pub short : r.length ≤ 480
     pub each : (i : ℕ) → i < k → i < r.length → Has size g r.number r.length i
 
-  both : (a b : Bool) → a && b ≡ true → (a ≡ true) × (b ≡ true)
-  both true b h = (refl, h)
-  both false b h = absurd (subst T (sym h) tt)
-
   so_blank : (k : ℕ) (s : Scan) (r : Record) → ((r : Record) → s.whole ≡ Some r → SoFar k r) → (scan_found k (Ok None) s).whole ≡ Some r → SoFar (suc k) r
   unfolding scan_found
   so_blank k s r before h =
@@ -166,7 +163,7 @@ module _ (size : ℕ) (g : ℕ → List ℕ) where
         where
           alike : (x : Bool) → leb r.length k ≡ x → x || (eqb p.number r.number && eqb p.length r.length) ≡ true → k < r.length → (p.number ≡ r.number) × (p.length ≡ r.length)
           alike true a b c = absurd (omega (arith, leb-true r.length k a))
-          alike false a b c = let t = both (eqb p.number r.number) (eqb p.length r.length) b in (eqb-true p.number r.number t.0, eqb-true p.length r.length t.1)
+          alike false a b c = let t = both_so (eqb p.number r.number) (eqb p.length r.length) b in (eqb-true p.number r.number t.0, eqb-true p.length r.length t.1)
 
           pick : (i : ℕ) → i < suc k → i < r.length → is_of k p r ≡ true → SoFar k r → (x : Bool) → eqb i k ≡ x → Has size g r.number r.length i
           pick i a b c f true q = let same = eqb-true i k q in let t = alike (leb r.length k) refl c (omega arith) in subst (Has size g r.number r.length) (sym same) (p, e, t.0, t.1)

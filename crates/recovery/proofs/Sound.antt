@@ -7,6 +7,7 @@ use Rattle.octets.proofs.Numbers.{join}
 use Rattle.octets.proofs.Fields.{field_at, length-numbers}
 use Rattle.journal.specs.Format.{mark, slot_sectors, guarded, numbers_end, part_bytes, part_of, half_of, is_sound, found, foreign}
 use Rattle.journal.specs.declared.part.Part.{Part}
+use Rattle.recovery.proofs.Tests.{both_so}
 
 pub found_blank : (size i : ℕ) → found size i (zeros 512) ≡ Ok None
 unfolding found zeros
@@ -23,21 +24,17 @@ pub record Sound (size i : ℕ) (p : Part) : Type 0 where
   pub guarded : 960 ≤ p.target.0
   pub within : p.target.0 < size
 
-both : (a b : Bool) → a && b ≡ true → (a ≡ true) × (b ≡ true)
-both true b h = (refl, h)
-both false b h = absurd (subst T (sym h) tt)
-
 four : (a b c d : Bool) → a && b && c && d ≡ true → (a ≡ true) × (b ≡ true) × (c ≡ true) × (d ≡ true)
-four a b c d h = let x = both (a && b && c) d h in let y = both (a && b) c x.0 in let z = both a b y.0 in (z.0, z.1, y.1, x.1)
+four a b c d h = let x = both_so (a && b && c) d h in let y = both_so (a && b) c x.0 in let z = both_so a b y.0 in (z.0, z.1, y.1, x.1)
 
 pub sound_is : (size i : ℕ) (p : Part) → is_sound size i p ≡ true → Sound size i p
 unfolding is_sound
 sound_is size i p h =
     let a = four (leb 1 p.number && ltb p.number numbers_end) (eqb p.index i) (ltb i p.length && leb p.length slot_sectors && eqb (p.length % 2) 0) (leb guarded p.target.0 && ltb p.target.0 size) h in
-    let n = both (leb 1 p.number) (ltb p.number numbers_end) a.0 in
-    let l = both (ltb i p.length && leb p.length slot_sectors) (eqb (p.length % 2) 0) a.2 in
-    let m = both (ltb i p.length) (leb p.length slot_sectors) l.0 in
-    let t = both (leb guarded p.target.0) (ltb p.target.0 size) a.3 in
+    let n = both_so (leb 1 p.number) (ltb p.number numbers_end) a.0 in
+    let l = both_so (ltb i p.length && leb p.length slot_sectors) (eqb (p.length % 2) 0) a.2 in
+    let m = both_so (ltb i p.length) (leb p.length slot_sectors) l.0 in
+    let t = both_so (leb guarded p.target.0) (ltb p.target.0 size) a.3 in
     record {
       some = leb-true 1 p.number n.0;
       below = ltb-true p.number numbers_end n.1;

@@ -23,14 +23,7 @@ use Rattle.recovery.proofs.Inv.{IsSector, Off, On}
 use Rattle.recovery.proofs.Opening.{scan_is, recover_is, which}
 use Rattle.recovery.proofs.Calls.{fine}
 use Rattle.recovery.proofs.Keeping.{held, Inv}
-
-both : (a b : Bool) → T (a && b) → T a × T b
-both true b h = (tt, h)
-both false b h = absurd h
-
-is_so : (b : Bool) → T b → b ≡ true
-is_so true h = refl
-is_so false h = absurd h
+use Rattle.recovery.proofs.Tests.{both, is_so}
 
 -- what each write of a list must be
 pub data Good (size : ℕ) : List Write → Type 0 where
