@@ -1,12 +1,12 @@
 // `wire` for programs in other languages: functions on numbers and byte strings, by which tests compare it with a second decoder.
 #![tactic(auto)]
 
-ghost use Rattle.std.specs.Prelude.{◌≡◌, ◌<◌, take};
+ghost use Rattle.std.specs.Prelude.{◌≡◌, ◌<◌, take, IfSome, MatchOption};
 ghost use Rattle.std.specs.Option.{option_map};
 ghost use Rattle.wire.specs.Answers.{answered_by, the_reply};
-ghost use Rattle.wire.specs.Calls.{decoded, the_call};
+ghost use Rattle.wire.specs.Calls.{decoded, is_call, the_call};
 ghost use Rattle.wire.specs.Frames.{framed, frame_bytes};
-ghost use Rattle.wire.specs.Kinds.{is_built};
+ghost use Rattle.wire.specs.Kinds.{is_built, number_of};
 ghost use Rattle.exports.specs.Parts.{call_parts, answer_parts, frame_parts, call_from, PutCall, answer_from, PutAnswer, Again};
 
 use octets::SECTOR_BYTES;
@@ -14,12 +14,12 @@ use octets::reader::sector;
 use std::alloc::Global;
 use wire::answer::Answer;
 use wire::call::Call;
-use wire::frame::{Frame, Framed};
+use wire::frame::{Frame, NoFrame};
 use wire::kind::Kind;
 use wire::number::*;
 use wire::refusal::Refusal;
 
-// What bytes decode to: a refusal's number, or 0, the kind and the numbers of a call.
+// What bytes decode to: a refusal's number, or 0, the kind and the numbers of a call. The C interface has no enum with values, so numbers say which it is, here and below.
 #[repr(C)]
 #[derive(Clone, Copy)]
 pub struct CallParts {
@@ -30,12 +30,12 @@ pub struct CallParts {
     pub third: u64,
 }
 
-const fn parts(kind: u64, first: u64, second: u64, third: u64) -> CallParts
-    ensures { result ≡ record { refusal = 0; kind = kind; first = first; second = second; third = third } }
+fn parts(kind: Kind, first: u64, second: u64, third: u64) -> CallParts
+    ensures { result ≡ record { refusal = 0; kind = number_of kind; first = first; second = second; third = third } }
 {
     CallParts {
         refusal: 0,
-        kind,
+        kind: u64::from(u8::from(kind)),
         first,
         second,
         third,
@@ -47,22 +47,37 @@ pub extern "C" fn wire_call(bytes: &[u8]) -> CallParts
     ensures { result ≡ call_parts (decoded is_built bytes.now) }
 {
     match Call::decode(bytes) {
-        Ok(Call::Make(size)) => parts(1, size.0, 0, 0),
-        Ok(Call::Attach(volume)) => parts(2, volume.0, 0, 0),
-        Ok(Call::Read(volume, token, sector)) => parts(3, volume.0, token.0, sector.0),
-        Ok(Call::Write(volume, token, sector, _)) => parts(4, volume.0, token.0, sector.0),
-        Ok(Call::Sync(volume, token)) => parts(5, volume.0, token.0, 0),
-        Ok(Call::Picture(volume, token)) => parts(6, volume.0, token.0, 0),
-        Ok(Call::Copy(picture)) => parts(7, picture.0, 0, 0),
-        Ok(Call::Drop(volume, token)) => parts(8, volume.0, token.0, 0),
-        Ok(Call::DropPicture(picture)) => parts(9, picture.0, 0, 0),
+        Ok(call) => of_call(&call),
         Err(refusal) => CallParts {
-            refusal: refusal.number() as u64,
+            refusal: u64::from(u8::from(refusal)),
             kind: 0,
             first: 0,
             second: 0,
             third: 0,
         },
+    }
+}
+
+fn of_call(call: &Call) -> CallParts
+    ensures { result ≡ call_parts (is_call (the_call call.now)) }
+{
+    let kind = call.kind();
+    match *call {
+        Call::Make(size) => parts(kind, size.0, 0, 0),
+        Call::Attach(volume) => parts(kind, volume.0, 0, 0),
+        Call::Read(hold, sector) | Call::Write(hold, sector, _) => parts(
+            kind,
+            hold.volume.0,
+            hold.token.0,
+            sector.0,
+        ),
+        Call::Sync(hold) | Call::Picture(hold) | Call::Drop(hold) => parts(
+            kind,
+            hold.volume.0,
+            hold.token.0,
+            0,
+        ),
+        Call::Copy(picture) | Call::DropPicture(picture) => parts(kind, picture.0, 0, 0),
     }
 }
 
@@ -75,46 +90,28 @@ pub struct AnswerParts {
     pub second: u64,
 }
 
+const fn said(case: u64, first: u64, second: u64) -> AnswerParts
+    ensures { result ≡ record { case = case; first = first; second = second } }
+{
+    AnswerParts {
+        case,
+        first,
+        second,
+    }
+}
+
 #[unsafe(no_mangle)]
 pub extern "C" fn wire_answer(bytes: &[u8]) -> AnswerParts
     ensures { result ≡ answer_parts (answered_by bytes.now) }
 {
     match Answer::decode(bytes) {
-        Some(Answer::Refused(refusal)) => AnswerParts {
-            case: 0,
-            first: refusal.number() as u64,
-            second: 0,
-        },
-        Some(Answer::Yes) => AnswerParts {
-            case: 1,
-            first: 0,
-            second: 0,
-        },
-        Some(Answer::Number(n)) => AnswerParts {
-            case: 2,
-            first: n,
-            second: 0,
-        },
-        Some(Answer::Token(token, size)) => AnswerParts {
-            case: 3,
-            first: token.0,
-            second: size.0,
-        },
-        Some(Answer::Sector(_)) => AnswerParts {
-            case: 4,
-            first: 0,
-            second: 0,
-        },
-        Some(Answer::Full) => AnswerParts {
-            case: 5,
-            first: 0,
-            second: 0,
-        },
-        None => AnswerParts {
-            case: 6,
-            first: 0,
-            second: 0,
-        },
+        Some(Answer::Refused(refusal)) => said(0, u64::from(u8::from(refusal)), 0),
+        Some(Answer::Yes) => said(1, 0, 0),
+        Some(Answer::Number(n)) => said(2, n, 0),
+        Some(Answer::Token(token, size)) => said(3, token.0, size.0),
+        Some(Answer::Sector(_)) => said(4, 0, 0),
+        Some(Answer::Full) => said(5, 0, 0),
+        None => said(6, 0, 0),
     }
 }
 
@@ -128,41 +125,46 @@ pub struct FrameParts {
     pub after: u64,
 }
 
+const fn no_frame(state: u64) -> FrameParts
+    ensures { result ≡ record { state = state; customer = 0; body = 0; after = 0 } }
+{
+    FrameParts {
+        state,
+        customer: 0,
+        body: 0,
+        after: 0,
+    }
+}
+
 #[unsafe(no_mangle)]
 pub extern "C" fn wire_frame(bytes: &[u8]) -> FrameParts
     ensures { result ≡ frame_parts (framed bytes.now) }
 {
     match Frame::decode(bytes) {
-        Framed::Whole(frame, after) => FrameParts {
+        // `u64` has no `From<usize>`, and `try_from` would add an error that never comes.
+        Ok((frame, after)) => FrameParts {
             state: 0,
             customer: frame.customer.0,
             body: frame.body.len() as u64,
             after: after.len() as u64,
         },
-        Framed::Short => FrameParts {
-            state: 1,
-            customer: 0,
-            body: 0,
-            after: 0,
-        },
-        Framed::Broken => FrameParts {
-            state: 2,
-            customer: 0,
-            body: 0,
-            after: 0,
-        },
+        Err(NoFrame::Short) => no_frame(1),
+        Err(NoFrame::Broken) => no_frame(2),
     }
 }
 
-// Copies to the front of `out`, and says how many bytes; 0 where they do not fit.
-fn hand_out(bytes: &[u8], out: &mut [u8]) -> usize
-    ensures { 0 < result → take result out.new ≡ bytes.now }
+// Copies what was encoded to the front of `out`, and says how many bytes; 0 for nothing, or where they do not fit. The C interface has no `Option`.
+fn hand_out(encoded: Option<Vec<u8>>, out: &mut [u8]) -> usize
+    ensures { MatchOption encoded (result ≡ 0) (λ v. 0 < result → take result out.new ≡ v.items) }
 {
+    let Some(bytes) = encoded else {
+        return 0;
+    };
     let n = bytes.len();
     if n > out.len() {
         return 0;
     }
-    out[0..n].copy_from_slice(bytes);
+    out[0..n].copy_from_slice(&bytes);
     n
 }
 
@@ -176,20 +178,42 @@ fn call_from<'a>(
 ) -> Call<'a>
     ensures { the_call result ≡ call_from kind first second third content.now }
 {
+    let hold = Hold {
+        volume: Volume(first),
+        token: Token(second),
+    };
     match kind {
         Kind::Make => Call::Make(Size(first)),
         Kind::Attach => Call::Attach(Volume(first)),
-        Kind::Read => Call::Read(Volume(first), Token(second), Sector(third)),
-        Kind::Write => Call::Write(Volume(first), Token(second), Sector(third), content),
-        Kind::Sync => Call::Sync(Volume(first), Token(second)),
-        Kind::Picture => Call::Picture(Volume(first), Token(second)),
+        Kind::Read => Call::Read(hold, Sector(third)),
+        Kind::Write => Call::Write(hold, Sector(third), content),
+        Kind::Sync => Call::Sync(hold),
+        Kind::Picture => Call::Picture(hold),
         Kind::Copy => Call::Copy(Picture(first)),
-        Kind::Drop => Call::Drop(Volume(first), Token(second)),
+        Kind::Drop => Call::Drop(hold),
         Kind::DropPicture => Call::DropPicture(Picture(first)),
     }
 }
 
-// Puts a call's bytes at the front of `out`, and says how many; 0 for no such kind, content that is no sector, or no room.
+// That call's bytes, if there is such a kind and the content is a sector.
+fn encoded_call(
+    heap: Global,
+    kind: u8,
+    first: u64,
+    second: u64,
+    third: u64,
+    content: &[u8],
+) -> Option<Vec<u8>>
+    ensures { IfSome result (λ v. PutCall kind first second third content.now v.items) }
+{
+    let kind = Kind::try_from(kind).ok()?;
+    let content = sector(content)?;
+    call_from(kind, first, second, third, content)
+        .encode(heap)
+        .ok()
+}
+
+// Puts a call's bytes at the front of `out`, and says how many; 0 for no such kind, content that is no sector, or no room. The C interface passes a call's parts one by one.
 #[unsafe(no_mangle)]
 pub extern "C" fn wire_put_call(
     heap: Global,
@@ -202,16 +226,7 @@ pub extern "C" fn wire_put_call(
 ) -> usize
     ensures { 0 < result → PutCall kind first second third content.now (take result out.new) }
 {
-    let Some(known) = Kind::of(kind) else {
-        return 0;
-    };
-    let Some(content) = sector(content) else {
-        return 0;
-    };
-    match call_from(known, first, second, third, content).encode(heap) {
-        Ok(bytes) => hand_out(bytes.as_slice(), out),
-        Err(_) => 0,
-    }
+    hand_out(encoded_call(heap, kind, first, second, third, content), out)
 }
 
 // The answer of a case with these numbers and, where it is one, this sector.
@@ -220,26 +235,30 @@ fn answer_from<'a>(case: u8, first: u64, second: u64, content: &'a [u8]) -> Opti
 {
     match case {
         0 => {
-            let Ok(number) = u8::try_from(first) else {
-                return None;
-            };
-            let Some(refusal) = Refusal::of(number) else {
-                return None;
-            };
+            let number = u8::try_from(first).ok()?;
+            let refusal = Refusal::try_from(number).ok()?;
             Some(Answer::Refused(refusal))
         }
         1 => Some(Answer::Yes),
         2 => Some(Answer::Number(first)),
         3 => Some(Answer::Token(Token(first), Size(second))),
-        4 => {
-            let Some(content) = sector(content) else {
-                return None;
-            };
-            Some(Answer::Sector(content))
-        }
+        4 => Some(Answer::Sector(sector(content)?)),
         5 => Some(Answer::Full),
         _ => None,
     }
+}
+
+// That answer's bytes, if there is such an answer.
+fn encoded_answer(
+    heap: Global,
+    case: u8,
+    first: u64,
+    second: u64,
+    content: &[u8],
+) -> Option<Vec<u8>>
+    ensures { IfSome result (λ v. PutAnswer case first second content.now v.items) }
+{
+    answer_from(case, first, second, content)?.encode(heap).ok()
 }
 
 // Puts an answer's bytes at the front of `out`, and says how many; 0 for no such answer or no room.
@@ -254,13 +273,7 @@ pub extern "C" fn wire_put_answer(
 ) -> usize
     ensures { 0 < result → PutAnswer case first second content.now (take result out.new) }
 {
-    let Some(answer) = answer_from(case, first, second, content) else {
-        return 0;
-    };
-    match answer.encode(heap) {
-        Ok(bytes) => hand_out(bytes.as_slice(), out),
-        Err(_) => 0,
-    }
+    hand_out(encoded_answer(heap, case, first, second, content), out)
 }
 
 // Puts a frame's bytes at the front of `out`, and says how many; 0 for no room.
@@ -272,10 +285,14 @@ pub extern "C" fn wire_put_frame(heap: Global, customer: u64, body: &[u8], out: 
         customer: Customer(customer),
         body,
     };
-    match frame.encode(heap) {
-        Ok(bytes) => hand_out(bytes.as_slice(), out),
-        Err(_) => 0,
-    }
+    hand_out(frame.encode(heap).ok(), out)
+}
+
+// The bytes that a call encodes to after it was decoded.
+fn again(heap: Global, bytes: &[u8]) -> Option<Vec<u8>>
+    ensures { IfSome result (λ v. Again (decoded is_built bytes.now) v.items) }
+{
+    Call::decode(bytes).ok()?.encode(heap).ok()
 }
 
 // Decodes a call and puts the bytes that it encodes to at the front of `out`; 0 for no call or no room.
@@ -283,11 +300,5 @@ pub extern "C" fn wire_put_frame(heap: Global, customer: u64, body: &[u8], out: 
 pub extern "C" fn wire_call_again(heap: Global, bytes: &[u8], out: &mut [u8]) -> usize
     ensures { 0 < result → Again (decoded is_built bytes.now) (take result out.new) }
 {
-    let Ok(call) = Call::decode(bytes) else {
-        return 0;
-    };
-    match call.encode(heap) {
-        Ok(again) => hand_out(again.as_slice(), out),
-        Err(_) => 0,
-    }
+    hand_out(again(heap, bytes), out)
 }

@@ -50,3 +50,31 @@ pub fn message(heap: Global, first: u8, numbers: &[u64]) -> Result<Vec<u8>, Allo
     }
     Ok(out)
 }
+
+#[cfg(test)]
+mod tests {
+    use super::*;
+    use std::test::Fail;
+
+    #[test]
+    fn put_writes_the_high_byte_first(rt: HostRuntime) -> Result<(), Fail> {
+        let mut out = Vec::new(rt.alloc());
+        0x0102_0304_u32.put(&mut out)?;
+        0x0506_0708_090a_0b0c_u64.put(&mut out)?;
+        assert_eq!(rt;
+            out.as_slice(),
+            [1, 2, 3, 4, 5, 6, 7, 8, 9, 10, 11, 12].as_slice()
+        );
+        Ok(())
+    }
+
+    #[test]
+    fn a_message_is_its_first_byte_and_its_numbers(rt: HostRuntime) -> Result<(), Fail> {
+        let out = message(rt.alloc(), 7, &[1, 258])?;
+        assert_eq!(rt;
+            out.as_slice(),
+            [7, 0, 0, 0, 0, 0, 0, 0, 1, 0, 0, 0, 0, 0, 0, 1, 2].as_slice()
+        );
+        Ok(())
+    }
+}

@@ -1,6 +1,6 @@
 -- Frames and back: a frame's length tells where it ends, whatever follows.
 use Rattle.std.proofs.Common.{◌≡◌, ℕ, ◌+◌, ◌^◌, ◌<◌, ◌≤◌, Bool, true, false, cond, T, ltb, List, [], ◌++◌, length, take, drop, sym, refl, ap, ◌∙◌, append_assoc, arith, length-append, length-drop, take-append-drop, length-take}
-use Rattle.std.proofs.lemmas.Bool.Decides.{nat_tests}
+use Rattle.std.proofs.lemmas.Bool.{le-ltb, ltb-false}
 use Rattle.disks.specs.Device.{all_bytes}
 use Rattle.wire.specs.Promises.{FrameRoundTrip, FrameOneSpelling, FrameBytesSound}
 use Rattle.std.proofs.lemmas.List.{take_at, drop_at}
@@ -9,26 +9,23 @@ use Rattle.wire.specs.Frames.{frame_bytes, framed, framed_as, framed_in, Frames,
 use Rattle.octets.proofs.Numbers.{length-bytes_of, big-bytes_of}
 use Rattle.octets.proofs.Fields.{big_eight, bytes_take, bytes_drop, bytes-front}
 
-not_less : (m n : ℕ) → n ≤ m → ltb m n ≡ false
-not_less m n h = grind (arith, nat_tests)
-
 -- a customer's number and what follows it
 framed_in_lem : (n : ℕ) (body after : List ℕ) → n < 2 ^ 64 → framed_in (bytes_of 8 n ++ body) after ≡ whole n body after
 framed_in_lem n body after h =
     let long : 8 ≤ length (bytes_of 8 n ++ body) = rw length-append (omega (arith, length-bytes_of 8 n)) in
-    rw (not_less (length (bytes_of 8 n ++ body)) 8 long, take_at (bytes_of 8 n) body 8 (length-bytes_of 8 n), drop_at (bytes_of 8 n) body 8 (length-bytes_of 8 n), big_eight n h)
+    rw (le-ltb (length (bytes_of 8 n ++ body)) 8 long, take_at (bytes_of 8 n) body 8 (length-bytes_of 8 n), drop_at (bytes_of 8 n) body 8 (length-bytes_of 8 n), big_eight n h)
 
 framed_as_lem : (n : ℕ) (body after : List ℕ) → n < 2 ^ 64 → framed_as (8 + length body) ((bytes_of 8 n ++ body) ++ after) ≡ whole n body after
 framed_as_lem n body after h =
     let inner : length (bytes_of 8 n ++ body) ≡ 8 + length body = rw length-append (omega (arith, length-bytes_of 8 n)) in
     let long : 8 + length body ≤ length ((bytes_of 8 n ++ body) ++ after) = rw length-append (omega arith) in
-    rw (not_less (length ((bytes_of 8 n ++ body) ++ after)) (8 + length body) long, take_at (bytes_of 8 n ++ body) after (8 + length body) inner, drop_at (bytes_of 8 n ++ body) after (8 + length body) inner) (framed_in_lem n body after h)
+    rw (le-ltb (length ((bytes_of 8 n ++ body) ++ after)) (8 + length body) long, take_at (bytes_of 8 n ++ body) after (8 + length body) inner, drop_at (bytes_of 8 n ++ body) after (8 + length body) inner) (framed_in_lem n body after h)
 
 framed_of : (z : ℕ) (rest : List ℕ) → z < 2 ^ 32 → framed (bytes_of 4 z ++ rest) ≡ framed_as z rest
 framed_of z rest h =
     let long : 4 ≤ length (bytes_of 4 z ++ rest) = rw length-append (omega (arith, length-bytes_of 4 z)) in
     let read : big (bytes_of 4 z) ≡ z = big-bytes_of 0 4 z h ∙ omega arith in
-    rw (not_less (length (bytes_of 4 z ++ rest)) 4 long, take_at (bytes_of 4 z) rest 4 (length-bytes_of 4 z), drop_at (bytes_of 4 z) rest 4 (length-bytes_of 4 z), read)
+    rw (le-ltb (length (bytes_of 4 z ++ rest)) 4 long, take_at (bytes_of 4 z) rest 4 (length-bytes_of 4 z), drop_at (bytes_of 4 z) rest 4 (length-bytes_of 4 z), read)
 
 pub frame_round_trip : FrameRoundTrip
 frame_round_trip n body after h l =
@@ -40,9 +37,6 @@ data Way (bs : List ℕ) : Frames → Type 0 where
   is_broken : Way bs broken
   is_whole : 4 ≤ length bs → big (take 4 bs) ≤ length (drop 4 bs) → 8 ≤ length (take (big (take 4 bs)) (drop 4 bs)) →
       Way bs (whole (big (take 8 (take (big (take 4 bs)) (drop 4 bs)))) (drop 8 (take (big (take 4 bs)) (drop 4 bs))) (drop (big (take 4 bs)) (drop 4 bs)))
-
-at_least : (m n : ℕ) (b : Bool) → ltb m n ≡ b → b ≡ false → n ≤ m
-at_least m n b e f = let g : ltb m n ≡ false = e ∙ f in grind (arith, nat_tests)
 
 ways : (bs : List ℕ) → Way bs (framed bs)
 ways bs = outer (ltb (length bs) 4) refl (ltb (length rest) z) refl (ltb (length frame) 8) refl
@@ -60,7 +54,7 @@ ways bs = outer (ltb (length bs) 4) refl (ltb (length rest) z) refl (ltb (length
     outer true e b f c g = is_short
     outer false e true f c g = is_short
     outer false e false f true g = is_broken
-    outer false e false f false g = is_whole (at_least (length bs) 4 false e refl) (at_least (length rest) z false f refl) (at_least (length frame) 8 false g refl)
+    outer false e false f false g = is_whole (ltb-false (length bs) 4 e) (ltb-false (length rest) z f) (ltb-false (length frame) 8 g)
 
 -- the parts of a whole frame, put together again
 together : (bs : List ℕ) → T (all_bytes bs) → 4 ≤ length bs → (z : ℕ) → big (take 4 bs) ≡ z → z ≤ length (drop 4 bs) → 8 ≤ length (take z (drop 4 bs)) →

@@ -57,7 +57,7 @@ impl<'a> Answer<'a> {
     }
 }
 
-// The answer of this number that the bytes behind it spell.
+// The answer of this number that the bytes behind it spell. An enum of the numbers would be no plainer: each stands here and in `encode`, and nowhere else.
 fn parse<'a>(number: u8, bytes: &'a [u8]) -> Option<Answer<'a>>
     ensures { option_map the_reply result ≡ answered_as number bytes.now }
 {

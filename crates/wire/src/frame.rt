@@ -48,6 +48,7 @@ impl<'a> Frame<'a> {
         ensures sound { FrameBytesSound }
     {
         let (first, rest) = bytes.split_first_chunk::<4>().ok_or(NoFrame::Short)?;
+        // `usize` has no `From<u32>`, and `try_from` would add an error that never comes.
         let length = u32::from_be_bytes(*first) as usize;
         let (frame, after) = rest.split_at_checked(length).ok_or(NoFrame::Short)?;
         let (customer, body) = number(frame).ok_or(NoFrame::Broken)?;

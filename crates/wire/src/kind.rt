@@ -3,6 +3,8 @@ ghost use Rattle.std.specs.Prelude.{◌≡◌, drop, Some, None, MatchOption};
 ghost use Rattle.wire.specs.Kinds.{number_of, kind_of, kind_in, is_built};
 ghost use Rattle.std.specs.Option.{ok_or};
 
+use crate::number::Unknown;
+
 // The kinds with their numbers.
 #[derive(Clone, Copy, PartialEq, Eq)]
 pub enum Kind {
@@ -17,16 +19,12 @@ pub enum Kind {
     DropPicture = 9,
 }
 
-// A number that no kind has.
-#[derive(Clone, Copy, PartialEq, Eq)]
-pub struct UnknownKind(pub u8);
-
 impl TryFrom<u8> for Kind {
-    type Error = UnknownKind;
+    type Error = Unknown;
 
     ghost try_from_gives = { λ n r. r ≡ ok_or (kind_of n) (record { 0 = n }) };
 
-    fn try_from(number: u8) -> Result<Kind, UnknownKind> {
+    fn try_from(number: u8) -> Result<Kind, Unknown> {
         match number {
             1 => Ok(Kind::Make),
             2 => Ok(Kind::Attach),
@@ -37,7 +35,7 @@ impl TryFrom<u8> for Kind {
             7 => Ok(Kind::Copy),
             8 => Ok(Kind::Drop),
             9 => Ok(Kind::DropPicture),
-            _ => Err(UnknownKind(number)),
+            _ => Err(Unknown(number)),
         }
     }
 }

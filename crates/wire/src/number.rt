@@ -41,3 +41,7 @@ pub struct Address {
     pub volume: Volume,
     pub sector: Sector,
 }
+
+// A number that no kind of call, or no refusal, has.
+#[derive(Clone, Copy, PartialEq, Eq)]
+pub struct Unknown(pub u8);

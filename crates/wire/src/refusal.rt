@@ -3,6 +3,8 @@ ghost use Rattle.std.specs.Prelude.{◌≡◌};
 ghost use Rattle.wire.specs.Refusals.{refusal_number, refusal_of};
 ghost use Rattle.std.specs.Option.{ok_or};
 
+use crate::number::Unknown;
+
 #[derive(Clone, Copy, PartialEq, Eq)]
 pub enum Refusal {
     // a size of 0 or above 2^40, a sector beyond the size, bytes that are no call
@@ -19,16 +21,12 @@ pub enum Refusal {
     NotBuilt = 12,
 }
 
-// A number that no refusal has.
-#[derive(Clone, Copy, PartialEq, Eq)]
-pub struct UnknownRefusal(pub u8);
-
 impl TryFrom<u8> for Refusal {
-    type Error = UnknownRefusal;
+    type Error = Unknown;
 
     ghost try_from_gives = { λ n r. r ≡ ok_or (refusal_of n) (record { 0 = n }) };
 
-    fn try_from(number: u8) -> Result<Refusal, UnknownRefusal> {
+    fn try_from(number: u8) -> Result<Refusal, Unknown> {
         match number {
             1 => Ok(Refusal::Malformed),
             2 => Ok(Refusal::Missing),
@@ -36,7 +34,7 @@ impl TryFrom<u8> for Refusal {
             8 => Ok(Refusal::UsedUp),
             11 => Ok(Refusal::Busy),
             12 => Ok(Refusal::NotBuilt),
-            _ => Err(UnknownRefusal(number)),
+            _ => Err(Unknown(number)),
         }
     }
 }

@@ -1,5 +1,5 @@
 use Rattle.std.proofs.Common.{◌≡◌, ◌∷◌, [], ◌++◌, ◌+◌, ◌*◌, ◌<◌, length, take, drop, List, ℕ, ap, sym, ◌∙◌, arith, add-one, slice_set}
-use Rattle.std.proofs.lemmas.List.{take_more_set, drop-drop, take_all}
+use Rattle.std.proofs.lemmas.List.{take_more_set, drop-drop}
 use Rattle.octets.specs.Numbers.{fields, big}
 use Rattle.octets.proofs.Fields.{fields_more}
 use Rattle.octets.proofs.reader.fill.Goals as goal
