@@ -72,7 +72,8 @@ impl Sectors {
     }
 
     // What the sector shows stays.
-    // This and the next two are an assignment each and prove alone: one function over a closure wanted a definition, a lemma and three answers.
+    // This and the next two are an assignment each, and prove alone. Tried as one function over a closure: its proof didn't close, at what it
+    // ensures where the sector is there, and each of the three would want an answer.
     pub fn settle(&mut self, at: u64)
         ensures kept { (n : ℕ) → kept_at self.new.written n ≡ (if nat_eq n at then shown_at self.old.written n else kept_at self.old.written n) }
         ensures shown { SameShown self.old.written self.new.written }

@@ -1,4 +1,4 @@
-use Rattle.std.proofs.Common.{◌≡◌, ℕ, List, replicate, ap, ◌∙◌}
+use Rattle.std.proofs.Common.{ℕ, List, replicate, ap, ◌∙◌}
 use Rattle.std.proofs.lemmas.List.Elements.{same_from_all_zip}
 use Rattle.cut_trial.proofs.Writes.{blank_zeros}
 use Rattle.cut_trial.proofs.model.Model.new.Goals as goal
