@@ -22,11 +22,12 @@ struct Content<'a>(&'a [u8; SECTOR_BYTES]);
 
 impl fmt::Display for Content<'_> {
     fn fmt<W: fmt::Write>(&self, f: &mut fmt::Formatter<W>) -> fmt::Result {
-        let first = self.0[0];
-        if self.0.iter().all(|b| *b == first) {
+        let content = self.0;
+        let first = content[0];
+        if content.iter().all(|b| *b == first) {
             write!(f, "{first:02x}")
         } else {
-            write!(f, "{}", Hex(self.0))
+            write!(f, "{}", Hex(content))
         }
     }
 }
