@@ -13,7 +13,7 @@ mod input;
 use anyhow::anyhow;
 use arguments::two;
 use input::next_line;
-use lines::hex;
+use lines::hex::Hex;
 use lines::line::{Line, LineError, parse};
 use std::fs::OpenOptions;
 use std::io::{BufReader, Write};
@@ -83,11 +83,12 @@ fn respond(customer: Customer, call: &[u8]) -> Response<'_>
 // Prints `answer N HEX`.
 fn print_response<W: Write>(rt: &HostRuntime, out: &mut W, response: &Response) -> io::Result<()> {
     let bytes = response.answer.encode(rt.alloc())?;
-    let text = hex::encode(rt.alloc(), bytes.as_slice())?;
-    let n = response.customer.0;
-    write!(out, "answer {n} ")?;
-    out.write_all(text.as_slice())?;
-    writeln!(out, "")
+    writeln!(
+        out,
+        "answer {} {}",
+        response.customer.0,
+        Hex(bytes.as_slice())
+    )
 }
 
 // What a line tells, if it was read.

@@ -1,7 +1,8 @@
 -- One turn of the loops over digits.
-use Rattle.std.proofs.Common.{◌≡◌, ℕ, zero, suc, ◌+◌, ◌*◌, ◌/◌, ◌%◌, ◌<◌, ◌≤◌, ◌≢◌, List, [], ◌∷◌, ◌++◌, length, get_or, take, drop, Some, None, Option, sym, refl, ap, ◌∙◌, ap₂, append_assoc, append-nil, arith}
+use Rattle.std.proofs.Common.{◌≡◌, ℕ, zero, suc, ◌+◌, ◌*◌, ◌/◌, ◌%◌, ◌<◌, ◌≤◌, ◌≢◌, List, [], ◌∷◌, ◌++◌, length, get_or, take, drop, Some, None, Option, sym, refl, ap, ◌∙◌, ap₂, append_assoc, append-nil, arith, encode_utf8, subst}
 use Rattle.std.proofs.lemmas.List.{drop_more, drop_all, take_more}
 use Rattle.std.specs.Option.{option_map}
+use Rattle.std.proofs.lemmas.Str.{encode_ascii}
 use Rattle.std.specs.Simd.{first_chunks}
 use Rattle.lines.specs.Hexes.{digit_of, digit_for, byte_in, with_byte, bytes_in, hex_of, HexRoundTrip}
 use Rattle.lines.specs.Lines.{with_front, cut_at}
@@ -60,7 +61,7 @@ hex-++ [] ys = refl
 hex-++ (x ∷ xs) ys = ap (λ (s : List ℕ). digit_for (x / 16) ∷ digit_for (x % 16) ∷ s) (hex-++ xs ys)
 
 -- a turn that writes two digits
-pub hex_more : (bs : List ℕ) (i high low : ℕ) (xs ys zs : List ℕ) → i < length bs → high ≡ digit_for (get_or bs i 0 / 16) → low ≡ digit_for (get_or bs i 0 % 16) → xs ≡ hex_of (take i bs) → ys ≡ xs ++ high ∷ [] → zs ≡ ys ++ low ∷ [] → zs ≡ hex_of (take (i + 1) bs)
+hex_more : (bs : List ℕ) (i high low : ℕ) (xs ys zs : List ℕ) → i < length bs → high ≡ digit_for (get_or bs i 0 / 16) → low ≡ digit_for (get_or bs i 0 % 16) → xs ≡ hex_of (take i bs) → ys ≡ xs ++ high ∷ [] → zs ≡ ys ++ low ∷ [] → zs ≡ hex_of (take (i + 1) bs)
 hex_more bs i high low xs ys zs h a b e f g =
     g ∙ ap (λ (s : List ℕ). s ++ low ∷ []) (f ∙ ap (λ (s : List ℕ). s ++ high ∷ []) e) ∙ append_assoc (hex_of (take i bs)) (high ∷ []) (low ∷ []) ∙ ap₂ (λ (m n : ℕ). hex_of (take i bs) ++ m ∷ n ∷ []) a b ∙ sym (hex-++ (take i bs) (get_or bs i 0 ∷ []))
     ∙ ap hex_of (sym (take_more bs i 0 h))
@@ -89,3 +90,14 @@ cut_found (t ∷ ts) (suc i) h e before =
 pub cut_none : (ts : List ℕ) → ((k : ℕ) → k < length ts → get_or ts k 0 ≢ 32) → cut_at ts ≡ None
 cut_none [] h = refl
 cut_none (t ∷ ts) h = cut_not t ts (h 0 (omega arith)) ∙ ap (with_front t) (cut_none ts (λ k below. h (suc k) (omega arith)))
+
+digit_ascii : (n : ℕ) → n < 16 → digit_for n < 128
+digit_ascii n h = grind (arith, nat_tests)
+
+-- a turn that displays two digits
+pub shown_more : (bs : List ℕ) (i x y : ℕ) → i < length bs → get_or bs i 0 < 256 → x ≡ digit_for (get_or bs i 0 / 16) → y ≡ digit_for (get_or bs i 0 % 16) → hex_of (take i bs) ++ (encode_utf8 x ++ encode_utf8 y) ≡ hex_of (take (i + 1) bs)
+shown_more bs i x y h byte e f =
+    let one = encode_ascii x (subst (λ (n : ℕ). n < 128) (sym e) (digit_ascii (get_or bs i 0 / 16) (omega arith))) in
+    let two = encode_ascii y (subst (λ (n : ℕ). n < 128) (sym f) (digit_ascii (get_or bs i 0 % 16) (omega arith))) in
+    let joined = ap₂ (λ (s t : List ℕ). hex_of (take i bs) ++ (s ++ t)) one two in
+    joined ∙ sym (append_assoc (hex_of (take i bs)) (x ∷ []) (y ∷ [])) ∙ hex_more bs i x y (hex_of (take i bs)) (hex_of (take i bs) ++ x ∷ []) ((hex_of (take i bs) ++ x ∷ []) ++ y ∷ []) h e f refl refl refl

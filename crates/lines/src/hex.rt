@@ -1,9 +1,11 @@
 // Bytes in hexadecimal digits.
-ghost use Rattle.std.specs.Prelude.{◌≡◌, ◌<◌, IfOk, vec_items};
+ghost use Rattle.std.specs.Prelude.{◌≡◌, ◌<◌, IfOk, Some, vec_items};
 ghost use Rattle.std.specs.Option.{option_map};
 ghost use Rattle.lines.specs.Hexes.{digit_of, digit_for, byte_in, bytes_in, hex_of, HexRoundTrip};
 
 use std::alloc::{AllocError, Global};
+use std::fmt;
+use std::fmt::Write;
 
 // What a digit stands for.
 fn value(digit: u8) -> Option<u8>
@@ -56,10 +58,21 @@ pub fn encode(heap: Global, bytes: &[u8]) -> Result<Vec<u8>, AllocError>
     ensures made { IfOk result (λ v. v.items ≡ hex_of bytes.now) }
     ensures back { HexRoundTrip }
 {
-    let mut out = Vec::new(heap);
-    for b in bytes {
-        out.push(digit(*b / 16))?;
-        out.push(digit(*b % 16))?;
+    Ok(format!(in heap; "{}", Hex(bytes))?.into_bytes())
+}
+
+// Bytes that are displayed as their digits, in lower case.
+#[derive(Clone, Copy)]
+pub struct Hex<'a>(pub &'a [u8]);
+
+impl fmt::Display for Hex<'_> {
+    ghost output = { λ h. Some (hex_of h.0.now) };
+
+    fn fmt<W: fmt::Write>(&self, f: &mut fmt::Formatter<W>) -> fmt::Result {
+        for b in self.0 {
+            f.write_char(char::from(digit(*b / 16)))?;
+            f.write_char(char::from(digit(*b % 16)))?;
+        }
+        Ok(())
     }
-    Ok(out)
 }

@@ -3,11 +3,11 @@
 
 mod script;
 
-use lines::hex;
+use lines::hex::Hex;
 use octets::SECTOR_BYTES;
 use place::one_place::OnePlace;
 use script::{LEAST_HOUSES, LEAST_SECTORS, Step, parse};
-use std::io;
+use std::{fmt, io};
 use wire::answer::Answer;
 
 #[derive(Drop)]
@@ -17,40 +17,41 @@ struct Rehearsal {
 }
 
 // A sector in words: its byte where all are the same, else all of it.
-fn print_sector(rt: &HostRuntime, content: &[u8; SECTOR_BYTES]) -> io::Result<()> {
-    let first = content[0];
-    if content.iter().all(|b| *b == first) {
-        println!(rt; "sector {first:02x}")
-    } else {
-        print_digits(rt, content)
+#[derive(Clone, Copy)]
+struct Content<'a>(&'a [u8; SECTOR_BYTES]);
+
+impl fmt::Display for Content<'_> {
+    fn fmt<W: fmt::Write>(&self, f: &mut fmt::Formatter<W>) -> fmt::Result {
+        let content = self.0;
+        let first = content[0];
+        if content.iter().all(|b| *b == first) {
+            write!(f, "{first:02x}")
+        } else {
+            write!(f, "{}", Hex(content))
+        }
     }
 }
 
-fn print_digits(rt: &HostRuntime, content: &[u8]) -> io::Result<()> {
-    let text = hex::encode(rt.alloc(), content)?;
-    print!(rt; "sector ")?;
-    for digit in text.iter() {
-        let c = *digit as char;
-        print!(rt; "{c}")?;
+// An answer in words.
+#[derive(Clone, Copy)]
+struct Reply<'a>(Answer<'a>);
+
+impl fmt::Display for Reply<'_> {
+    fn fmt<W: fmt::Write>(&self, f: &mut fmt::Formatter<W>) -> fmt::Result {
+        match self.0 {
+            Answer::Refused(refusal) => write!(f, "refused {}", u8::from(refusal)),
+            Answer::Yes => f.write_str("yes"),
+            Answer::Number(n) => write!(f, "number {n}"),
+            Answer::Token(token, size) => write!(f, "token {} size {}", token.0, size.0),
+            Answer::Sector(content) => write!(f, "sector {}", Content(content)),
+            Answer::Full => f.write_str("full"),
+        }
     }
-    println!(rt; "")
 }
 
 fn print_answer(rt: &HostRuntime, bytes: &[u8]) -> io::Result<()> {
     match Answer::decode(bytes) {
-        Some(Answer::Refused(refusal)) => {
-            let n = u8::from(refusal);
-            println!(rt; "refused {n}")
-        }
-        Some(Answer::Yes) => println!(rt; "yes"),
-        Some(Answer::Number(n)) => println!(rt; "number {n}"),
-        Some(Answer::Token(token, size)) => {
-            let t = token.0;
-            let z = size.0;
-            println!(rt; "token {t} size {z}")
-        }
-        Some(Answer::Sector(content)) => print_sector(rt, content),
-        Some(Answer::Full) => println!(rt; "full"),
+        Some(answer) => println!(rt; "{}", Reply(answer)),
         None => println!(rt; "no answer"),
     }
 }
