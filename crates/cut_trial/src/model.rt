@@ -40,6 +40,7 @@ impl Model {
     pub fn place(i: usize) -> Place
         ensures { result.0 ≡ placed i }
     {
+        // `u64` has no `From<usize>`.
         Place(GUARDED + APART * (i % PLAYED) as u64)
     }
 

@@ -3,7 +3,7 @@
 use Rattle.std.proofs.Common.{◌≡◌, ℕ, Bool, true, false, cond, eqb, List, is_err, Ok, Err, Result, subst, eq-eqb, ne_eqb}
 use mathlib.Core.Bool.{false≢true}
 use Rattle.disks.specs.Device.{Io, answer, read, write, sync, then'}
-use Rattle.device.specs.Does.{Act, gave, took, settled, broke, Does, ends, stops, idles, reads, writes, syncs, Cut, over, read_io, write_io, sync_io}
+use Rattle.device.specs.Does.{Act, gave, took, settled, broke, Does, ends, stops, idles, reads, writes, syncs, Cut, over, giving, read_io, write_io, sync_io}
 
 -- a program that ended well, and then another
 pub after_call : {S E F A B : Type 0} {did : S → Act → S → Type 0} (p : Io A) (f : A → Io B) {a : A} {r : Result B E} {s m t : S} →
@@ -44,6 +44,11 @@ failed {r = Ok a} h i = elim (false≢true h) [ ]
 pub over_err : {A B E : Type 0} (f : A → B) (r : Result A E) → is_err r ≡ true → is_err (over f r) ≡ true
 over_err f (Ok a) h = h
 over_err f (Err e) h = h
+
+-- a read that failed gave nothing
+pub giving_err : {A B E : Type 0} (r : Result A E) (b : B) → is_err r ≡ true → is_err (giving r b) ≡ true
+giving_err (Ok a) b h = h
+giving_err (Err e) b h = h
 
 -- the program's answer is the code's
 pub done : {S E A : Type 0} {did : S → Act → S → Type 0} {a b : A} {s : S} → a ≡ b → Does {E = E} did (answer a) s (Ok b) s

@@ -29,6 +29,7 @@ impl<E> From<Fault> for Failed<E> {
     }
 }
 
+// A sector's number and its bytes stay two parameters: the journal's `Write` of both holds a copy of the bytes, and here they are lent.
 pub trait Disk {
     // from one state to the next the disk did this
     ghost did: { Self → Act → Self → Type 0 };

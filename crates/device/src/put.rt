@@ -15,6 +15,7 @@ fn write_record<D: Disk>(disk: &mut D, at: u64, number: u64, writes: &[Write]) -
     requires { at + 2 * length writes.now < 2 ^ 64 }
     ensures { Does D.did (write_all_io (record_of at number writes.now)) disk.old result disk.new }
 {
+    // `u64` has no `From<usize>`.
     let length = 2 * writes.len() as u64;
     let mut sector = BLANK_SECTOR;
     for (i, write) in writes.iter().enumerate() {
@@ -58,6 +59,8 @@ fn transact<D: Disk>(journal: &Journal, disk: &mut D, writes: &[Write]) -> Resul
     write_in_place(disk, writes)
 }
 
+// The disk is lent and not kept with the journal in one struct, which would be no plainer: after a fault the disk is there still, and is
+// opened again.
 // Writes these sectors together: whenever the power fails, opening finds all of them written or none.
 #[tactic(auto, using(crate::proofs::Steps::does, crate::proofs::Tells::tells), unfolding(journal::specs::Programs::put_io))]
 pub fn put<D: Disk>(

@@ -1,7 +1,7 @@
 -- How a request ends, by what came of it at the file.
 use Rattle.std.proofs.Common.{◌≡◌, ℕ, List, true, false, inr, MatchResult, is_err, Ok, Err, Result, sym, ◌∙◌, subst}
 use mathlib.Core.Bool.{false≢true}
-use Rattle.device.specs.Does.{Act, took, broke, Does, giving, stops, writes, write_io, sync_io}
+use Rattle.device.specs.Does.{Act, took, broke, Does, stops, writes, write_io, sync_io}
 use Rattle.device.proofs.Steps.{it_settled, it_broke, failed}
 use Rattle.file_disk.specs.Files.{FileAct, flushed}
 use Rattle.file_disk.specs.Files.{failed as file_failed}
@@ -12,10 +12,6 @@ use Rattle.file_disk.specs.declared.disk.FileDisk.{FileDisk}
 pub by_done : {U D : Type 0} {P X : U → Type 0} {Q Y : D → Type 0} {G : Type 0} (done : Result U D) → MatchResult done P Q → MatchResult done X Y → ((u : U) → P u → X u → G) → ((e : D) → Q e → Y e → G) → G
 by_done (Ok u) p x f g = f u p x
 by_done (Err e) q y f g = g e q y
-
-pub giving_err : {A B E : Type 0} (r : Result A E) (b : B) → is_err r ≡ true → is_err (giving r b) ≡ true
-giving_err (Ok a) b h = h
-giving_err (Err e) b h = h
 
 -- a write that was done though the file said that it failed
 pub took_then_broke : {S E : Type 0} {did : S → Act → S → Type 0} {n : ℕ} {b : List ℕ} {r : Result (Unit {0}) E} {s : S} (m : S) {t : S} → is_err r ≡ true → did s (took n b) m → did m broke t → Does did (write_io n b) s r t

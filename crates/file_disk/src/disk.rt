@@ -35,6 +35,7 @@ impl<F: Places> FileDisk<F> {
     fn start(&mut self, at: Place) -> Result<u64, Fault>
         ensures { MatchResult result (λ p. (self.old.broken ≡ false) × (p ≡ at.0 * 512) × (self.new ≡ self.old)) (λ _. ((self.old.broken ≡ true) ⊎ Outside at.0) × (self.new.broken ≡ true) × (self.new.file ≡ self.old.file)) }
     {
+        // `u64` has no `From<usize>`.
         match at.0.checked_mul(SECTOR_BYTES as u64) {
             Some(place) if !self.broken => Ok(place),
             _ => Err(self.give_up()),

@@ -30,6 +30,7 @@ pub fn next_line<R: BufRead>(
     ensures read { IfSome (R.remaining input.old) (λ xs. IfOk result (Reads xs)) }
 {
     let mut line = Vec::new(heap);
+    // `u64` has no `From<usize>`.
     let mut front = Read::take(&mut *input, MAX_LINE as u64 + 1);
     match front.read_until(b'\n', &mut line) {
         Ok(0) => return Ok(None),

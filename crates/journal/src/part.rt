@@ -70,6 +70,7 @@ impl Part {
     }
 
     // The part that this sector holds, if it isn't blank, at this index of a slot, on a device of so many sectors.
+    // The two stay parameters, here and in `Scan::next`: a struct of them would be made anew for each sector.
     // size and index stay two numbers: one is the device's for good, the other the sector's; a struct of both would be made anew for each sector.
     #[tactic(auto, using(crate::proofs::Sectors::finding))]
     pub fn found(

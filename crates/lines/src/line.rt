@@ -20,7 +20,7 @@ pub enum Line {
     Tick,
 }
 
-// Why a line is not taken.
+// Why a line is not taken. An enum of its own, since callers and contracts name the cause.
 #[derive(Clone, Copy, PartialEq, Eq)]
 pub enum LineError {
     Malformed,

@@ -3,7 +3,7 @@ use Rattle.std.proofs.Common.{◌≡◌, ℕ, ◌<◌, Bool, true, false, cond, 
 use mathlib.Core.List.{Memᴰ}
 use Rattle.journal.specs.declared.state.Write.{Write}
 use Rattle.disks.specs.Device.{Device, latest, written}
-use Rattle.device.specs.Does.{giving, gave, took, settled}
+use Rattle.device.specs.Does.{gave, took, settled}
 use Rattle.memory_disk.specs.Contents.{kept_at, shown_at, since_in, Settled, Lost}
 use Rattle.memory_disk.specs.Disks.{device_of, Same, answers, Unmoved, Counted, Noted, Broke, MemoryDid, Cuts}
 use Rattle.memory_disk.specs.declared.MemoryDisk.{MemoryDisk}
@@ -17,11 +17,6 @@ both : (a b : Bool) → true ≡ (a && b) → (a ≡ true) × (b ≡ true)
 both true true e = (refl, refl)
 both true false e = (refl, sym e)
 both false b e = (sym e, absurd (subst (λ (x : Bool). cond x ⊥ (Unit {0})) (sym e) tt))
-
--- a read that failed gave nothing
-pub giving_err : {A B E : Type 0} (r : Result A E) (b : B) → is_err r ≡ true → is_err (giving r b) ≡ true
-giving_err (Ok a) b h = h
-giving_err (Err e) b h = h
 
 pub broke_noting : (s m u t : MemoryDisk) (within r : Bool) → Counted s within r m → Noted m (vec_items m.log) u → Broke u t → Broke s t
 broke_noting s m u t within r k w b = record {

@@ -31,7 +31,7 @@ pub enum Step {
     Network,
 }
 
-// Why a line tells no step.
+// Why a line tells no step. An enum of its own, since what is printed goes by the cause.
 #[derive(Clone, Copy)]
 pub enum ScriptError {
     Unknown,
@@ -65,90 +65,98 @@ impl<T: Drop> From<AllocFailed<T>> for ScriptError {
 pub fn parse(heap: Global, line: &str) -> Result<Option<Step>, ScriptError>
     ensures { IfOk result (λ step. IfSome step InRange) }
 {
-    let mut words = line.split_whitespace();
-    let Some(first) = words.next() else {
+    let mut words = Words {
+        heap,
+        words: line.split_whitespace(),
+    };
+    let Some(first) = words.words.next() else {
         return Ok(None);
     };
     let step = match first {
-        "houses" => houses(&mut words)?,
-        "at" => at(heap, &mut words)?,
+        "houses" => words.houses()?,
+        "at" => words.at()?,
         "pass" | "lose" | "twice" | "tick" | "cut" | "up" | "seed" => return Ok(Some(
             Step::Network,
         )),
         _ => return Err(ScriptError::Unknown),
     };
-    match words.next() {
+    match words.words.next() {
         None => Ok(Some(step)),
         Some(_) => Err(ScriptError::Unknown),
     }
 }
 
-fn houses(words: &mut SplitWhitespace) -> Result<Step, ScriptError>
-    ensures { IfOk result InRange }
-{
-    let houses = number(words)?;
-    let sectors = number(words)?;
-    match (houses, sectors) {
-        (LEAST_HOUSES..=MOST_HOUSES, LEAST_SECTORS..=MOST_SECTORS) => Ok(Step::Houses(
-            houses, sectors,
-        )),
-        _ => Err(ScriptError::Unknown),
-    }
-}
-
-fn at(heap: Global, words: &mut SplitWhitespace) -> Result<Step, ScriptError>
-    ensures { IfOk result InRange }
-{
-    Ok(Step::At(number(words)?, call(heap, words)?))
-}
-
-// The next word as a number.
-fn number(words: &mut SplitWhitespace) -> Result<u64, ScriptError> {
-    let word = words.next().ok_or(ScriptError::Unknown)?;
-    decimal(word.as_bytes()).ok_or(ScriptError::Unknown)
-}
-
-// The call that the next words tell, as bytes.
-fn call(heap: Global, words: &mut SplitWhitespace) -> Result<Vec<u8>, ScriptError> {
-    match words.next().ok_or(ScriptError::Unknown)? {
-        "make" => of_numbers(heap, Kind::Make, 1, words),
-        "attach" => of_numbers(heap, Kind::Attach, 1, words),
-        "read" => of_numbers(heap, Kind::Read, 3, words),
-        "write" => {
-            let mut bytes = of_numbers(heap, Kind::Write, 3, words)?;
-            bytes.extend_from_slice(content(heap, words)?.as_slice())?;
-            Ok(bytes)
-        }
-        "sync" => of_numbers(heap, Kind::Sync, 2, words),
-        "picture" => of_numbers(heap, Kind::Picture, 2, words),
-        "copy" => of_numbers(heap, Kind::Copy, 1, words),
-        "drop" => of_numbers(heap, Kind::Drop, 2, words),
-        "drop-picture" => of_numbers(heap, Kind::DropPicture, 1, words),
-        _ => Err(ScriptError::Unknown),
-    }
-}
-
-// A call's kind and so many numbers.
-fn of_numbers(
+// What is left of a line.
+#[derive(Drop)]
+struct Words<'a> {
     heap: Global,
-    kind: Kind,
-    count: u8,
-    words: &mut SplitWhitespace,
-) -> Result<Vec<u8>, ScriptError> {
-    let mut bytes = message(heap, u8::from(kind), &[])?;
-    for _ in 0..count {
-        number(words)?.put(&mut bytes)?;
-    }
-    Ok(bytes)
+    words: SplitWhitespace<'a>,
 }
 
-// A sector of one byte, in two digits, or a whole one.
-fn content(heap: Global, words: &mut SplitWhitespace) -> Result<Vec<u8>, ScriptError> {
-    let word = words.next().ok_or(ScriptError::Unknown)?;
-    let bytes = hex::decode(heap, word.as_bytes())?.ok_or(ScriptError::Unknown)?;
-    match bytes.as_slice() {
-        [byte] => Ok(Vec::from_elem(heap, *byte, SECTOR_BYTES)?),
-        whole if whole.len() == SECTOR_BYTES => Ok(bytes),
-        _ => Err(ScriptError::Unknown),
+impl<'a> Words<'a> {
+    fn next(&mut self) -> Result<&'a str, ScriptError> {
+        self.words.next().ok_or(ScriptError::Unknown)
+    }
+
+    // The next word as a number.
+    fn number(&mut self) -> Result<u64, ScriptError> {
+        decimal(self.next()?.as_bytes()).ok_or(ScriptError::Unknown)
+    }
+
+    fn houses(&mut self) -> Result<Step, ScriptError>
+        ensures { IfOk result InRange }
+    {
+        match (self.number()?, self.number()?) {
+            (houses @ LEAST_HOUSES..=MOST_HOUSES, sectors @ LEAST_SECTORS..=MOST_SECTORS) => Ok(
+                Step::Houses(houses, sectors),
+            ),
+            _ => Err(ScriptError::Unknown),
+        }
+    }
+
+    fn at(&mut self) -> Result<Step, ScriptError>
+        ensures { IfOk result InRange }
+    {
+        Ok(Step::At(self.number()?, self.call()?))
+    }
+
+    // The call that the next words tell, as bytes.
+    fn call(&mut self) -> Result<Vec<u8>, ScriptError> {
+        match self.next()? {
+            "make" => self.of_numbers(Kind::Make, 1),
+            "attach" => self.of_numbers(Kind::Attach, 1),
+            "read" => self.of_numbers(Kind::Read, 3),
+            "write" => {
+                let mut bytes = self.of_numbers(Kind::Write, 3)?;
+                bytes.extend_from_slice(self.content()?.as_slice())?;
+                Ok(bytes)
+            }
+            "sync" => self.of_numbers(Kind::Sync, 2),
+            "picture" => self.of_numbers(Kind::Picture, 2),
+            "copy" => self.of_numbers(Kind::Copy, 1),
+            "drop" => self.of_numbers(Kind::Drop, 2),
+            "drop-picture" => self.of_numbers(Kind::DropPicture, 1),
+            _ => Err(ScriptError::Unknown),
+        }
+    }
+
+    // A call's kind and so many numbers.
+    fn of_numbers(&mut self, kind: Kind, count: u8) -> Result<Vec<u8>, ScriptError> {
+        let mut bytes = message(self.heap, u8::from(kind), &[])?;
+        for _ in 0..count {
+            self.number()?.put(&mut bytes)?;
+        }
+        Ok(bytes)
+    }
+
+    // A sector of one byte, in two digits, or a whole one.
+    fn content(&mut self) -> Result<Vec<u8>, ScriptError> {
+        let digits = self.next()?.as_bytes();
+        let bytes = hex::decode(self.heap, digits)?.ok_or(ScriptError::Unknown)?;
+        match bytes.as_slice() {
+            [byte] => Ok(Vec::from_elem(self.heap, *byte, SECTOR_BYTES)?),
+            whole if whole.len() == SECTOR_BYTES => Ok(bytes),
+            _ => Err(ScriptError::Unknown),
+        }
     }
 }

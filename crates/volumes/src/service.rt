@@ -235,7 +235,7 @@ fn recounted(used: u64, was: bool, now: bool) -> u64
 
 impl Volumes {
     // What a call answers, and what becomes of sectors. `read` is what the sector holds that the call needs, as `needs` says.
-    // At most linear in the number of volumes; allocates nothing.
+    // At most linear in the number of volumes; allocates nothing. The two stay parameters: a struct of them would be made for this call alone.
     #[tactic(auto, using(crate::proofs::Alike::serves_the_meaning))]
     pub fn exec<'a>(&mut self, call: Call<'a>, read: &'a [u8; SECTOR_BYTES]) -> Outcome<'a>
         ensures served { the_served result self.new ≡ serves self.old.room (the_call call.entry) read.now (the_service self.old) }

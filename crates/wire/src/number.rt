@@ -1,4 +1,5 @@
-// Numbers that must not be mixed, each a type of its own, and those of them that go together.
+// Numbers that must not be mixed, each a type of its own, and those of them that go together. One type with a parameter
+// for what is numbered would be no plainer: it would want a name for each as well.
 
 // A volume's number, given once.
 #[derive(Clone, Copy, PartialEq, Eq, PartialOrd, Ord)]

@@ -1,6 +1,6 @@
 use Rattle.std.proofs.Common.{rules}
-use Rattle.device.proofs.Steps.{disks, failed}
-use Rattle.file_disk.proofs.Broken.{by_done, giving_err}
+use Rattle.device.proofs.Steps.{disks, failed, giving_err}
+use Rattle.file_disk.proofs.Broken.{by_done}
 use Rattle.file_disk.proofs.disk.FileDiskDisk.read.Goals as goal
 
 pub returns-in_err-place-clause-does : goal.returns-in_err-place-clause-does

@@ -1,6 +1,6 @@
 use Rattle.std.proofs.Common.{rules}
-use Rattle.device.proofs.Steps.{disks, failed}
-use Rattle.memory_disk.proofs.Requests.{giving_err, it_gives}
+use Rattle.device.proofs.Steps.{disks, failed, giving_err}
+use Rattle.memory_disk.proofs.Requests.{it_gives}
 use Rattle.memory_disk.proofs.disk.MemoryDiskDisk.read.Goals as goal
 
 pub returns-in_err-count-clause-does : goal.returns-in_err-count-clause-does
