@@ -1,4 +1,4 @@
-use Rattle.std.proofs.Common.{rules, arith}
+use Rattle.std.proofs.Common.{rules}
 use Rattle.std.proofs.lemmas.Grind.{put_three}
 use Rattle.lines.proofs.Steps.{shown_more}
 use Rattle.lines.proofs.hex.HexDisplay.fmt.Goals as goal
