@@ -27,6 +27,7 @@ fn write_part<D: Disk>(
 }
 
 // Writes a record of these writes into the slot that begins there, two sectors for each write.
+#[tactic(auto, using(crate::proofs::Steps::does, crate::proofs::Turns::writing))]
 fn write_record<D: Disk>(disk: &mut D, at: u64, number: u64, writes: &[Write]) -> Result<(), Fault>
     requires { at + 2 * length writes.now < 2 ^ 64 }
     ensures { Does D.did (write_all_io (record_of at number writes.now)) disk.old result disk.new }
@@ -53,6 +54,7 @@ fn write_record<D: Disk>(disk: &mut D, at: u64, number: u64, writes: &[Write]) -
 }
 
 // Writes the sectors of a transaction to where they belong.
+#[tactic(auto, using(crate::proofs::Steps::does, crate::proofs::Turns::writing))]
 fn write_in_place<D: Disk>(disk: &mut D, writes: &[Write]) -> Result<(), Fault>
     ensures { Does D.did (write_all_io writes.now) disk.old result disk.new }
 {
