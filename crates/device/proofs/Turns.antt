@@ -74,7 +74,7 @@ pub scan_as : {S E : Type 0} {did : S → Act → S → Type 0} (size i k : ℕ)
 scan_as {did} size i k {at} {a'} {r} {s} {t} e f h =
     subst (λ (x : ℕ). Does did (scan_from size x i k a') s r t) e (subst (λ (x : Scan). Does did (scan_from size at i k x) s r t) f h)
 
-pub ruleset scanning = (scan_more, scan_all)
+pub ruleset scanning = (scan_more, scan_all, scan_as)
 
 -- a record's writes from the i-th on
 pub replay_more : {S E : Type 0} {did : S → Act → S → Type 0} (at i count : ℕ) {r : Result (Unit {0}) E} {s t : S} → i < count →

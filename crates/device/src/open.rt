@@ -12,6 +12,7 @@ use journal::{Place, SLOT_SECTORS};
 use octets::BLANK_SECTOR;
 
 // Reads a slot, first sector to last.
+#[tactic(auto, using(crate::proofs::Steps::does, crate::proofs::Turns::scanning))]
 fn scan<D: Disk>(disk: &mut D, size: u64, slot: Slot) -> Result<Scan, Fault>
     ensures { Does D.did (scan_io size slot) disk.old result disk.new }
 {

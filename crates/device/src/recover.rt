@@ -12,6 +12,7 @@ use journal::state::{InOrder, Journal};
 use octets::BLANK_SECTOR;
 
 // Does the first so many writes again of the record in the slot that begins there.
+#[tactic(auto, using(crate::proofs::Steps::does, crate::proofs::Turns::replaying))]
 fn replay<D: Disk>(disk: &mut D, at: u64, count: u64) -> Result<(), Fault>
     requires { at + 2 * count < 2 ^ 64 }
     ensures { Does D.did (replay_from at 0 count) disk.old result disk.new }

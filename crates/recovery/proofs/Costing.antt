@@ -1,6 +1,7 @@
 -- What transactions and opening cost, and what opening makes of any device.
 use Rattle.std.proofs.Common.{◌≡◌, ℕ, zero, suc, ◌+◌, ◌*◌, ◌<◌, ◌≤◌, Bool, true, false, cond, ◌&&◌, T, eqb, ltb, ◌≢◌, ◌⊎◌, List, [], ◌∷◌, ◌++◌, length, sym, refl, ap, ◌∙◌, subst, inl, inr, arith, lt-ltb, eqb-true, Ok, Err, Some, None}
 use borrow.Author.Tests.{eqb-false}
+use Rattle.std.proofs.lemmas.Bool.{and_left, and_right}
 use Rattle.disks.specs.Device.{Device, Io, answer, read, write, sync, run, Ran, shown, written, synced, then'}
 use Rattle.compose.proofs.Compose.{run_then}
 use Rattle.journal.specs.Format.{found, part_of, half_of, foreign, Found}
@@ -13,7 +14,7 @@ use Rattle.journal.specs.declared.state.Write.{Write}
 use Rattle.journal.specs.declared.state.Slot.{Slot}
 use Rattle.journal.specs.declared.state.Slot.TheVariants.{First, Second}
 use Rattle.journal.specs.declared.state.Journal.{Journal}
-use Rattle.recovery.proofs.Redoing.{slot_of, scan_run, redo_few, settle_io}
+use Rattle.recovery.proofs.Redoing.{slot_of, slot_run, redo_few, settle_io}
 use Rattle.recovery.proofs.Opening.{opens, opens-cut}
 use Rattle.recovery.proofs.Keeping.{held}
 use Rattle.recovery.proofs.Tests.{is_so}
@@ -144,17 +145,13 @@ no_foreign size g zero e = refl
 no_foreign size g (suc k) e = found_ours k (found size k (g k)) (scanned size g k) (e k (omega arith)) ∙ no_foreign size g k (λ i l. e i (omega arith))
 
 module _ (size : ℕ) (d : Device) where
-  slot_run : (slot : Slot) → run (scan_io size slot) d ≡ record { value = scanned size (slot_of d slot) 480; device = d }
-  unfolding scanned
-  slot_run slot = scan_run size (base slot) d 0 480
-
   recover_run : run (open_io size) d ≡ run (recover_io size (scanned size (slot_of d First) 480) (scanned size (slot_of d Second) 480)) d
   unfolding open_io run
   recover_run =
       run_then (scan_io size First) (λ a. then' (scan_io size Second) (λ b. recover_io size a b)) d
-      ∙ ap (λ (r : Ran Scan). run (then' (scan_io size Second) (λ b. recover_io size r.value b)) r.device) (slot_run First)
+      ∙ ap (λ (r : Ran Scan). run (then' (scan_io size Second) (λ b. recover_io size r.value b)) r.device) (slot_run size d First)
       ∙ run_then (scan_io size Second) (λ b. recover_io size (scanned size (slot_of d First) 480) b) d
-      ∙ ap (λ (r : Ran Scan). run (recover_io size (scanned size (slot_of d First) 480) r.value) r.device) (slot_run Second)
+      ∙ ap (λ (r : Ran Scan). run (recover_io size (scanned size (slot_of d First) 480) r.value) r.device) (slot_run size d Second)
 
   refused : (scanned size (slot_of d First) 480).ours && (scanned size (slot_of d Second) 480).ours ≡ false → run (open_io size) d ≡ record { value = Err foreign; device = d }
   unfolding recover_io run
@@ -176,14 +173,9 @@ module _ (size : ℕ) (d : Device) where
       go true = (ready size Second b a, ap (λ (r : Ran Opened). r.value) (run_then (redo_io Second b a) (λ _. answer (Ok (ready size Second b a))) d))
       go false = (ready size First a b, ap (λ (r : Ran Opened). r.value) (run_then (redo_io First a b) (λ _. answer (Ok (ready size First a b))) d))
 
-either-false : (x y : Bool) → (x ≡ false) ⊎ (y ≡ false) → x && y ≡ false
-either-false true y (inl e) = absurd (subst T e tt)
-either-false true y (inr e) = e
-either-false false y o = refl
-
 pub foreign_refused : ForeignRefused
-foreign_refused size d First i l e = refused size d (either-false _ _ (inl (is_foreign size (slot_of d First) i 480 l e)))
-foreign_refused size d Second i l e = refused size d (either-false _ _ (inr (is_foreign size (slot_of d Second) i 480 l e)))
+foreign_refused size d First i l e = refused size d (and_left _ _ (is_foreign size (slot_of d First) i 480 l e))
+foreign_refused size d Second i l e = refused size d (and_right _ _ (is_foreign size (slot_of d Second) i 480 l e))
 
 pub ours-opened : OursOpened
 ours-opened size d no' = accepted size d (rw (no_foreign size (slot_of d First) 480 (no' First), no_foreign size (slot_of d Second) 480 (no' Second)))

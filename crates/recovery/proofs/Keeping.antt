@@ -19,7 +19,7 @@ use Rattle.recovery.proofs.Inv.{Off, On, ours_more}
 use Rattle.recovery.proofs.Cutting.{off_of, rest-cut}
 use Rattle.recovery.proofs.Opening.{opens, opens-cut}
 use Rattle.recovery.proofs.Calls.{get_run, get_refused, get_upto, put_refused, put-used-up, put_run, put-after, put-cut, put-still}
-use Rattle.recovery.proofs.Tests.{join}
+use Rattle.octets.proofs.Numbers.{join}
 
 -- a blank slot has nothing to do again
 blank-scan : (size : ℕ) (g : ℕ → List ℕ) (k : ℕ) → ((i : ℕ) → found size i (g i) ≡ Ok None) → (scanned size g k).whole ≡ None

@@ -2,6 +2,8 @@
 -- be opened again, with the same array.
 use Rattle.std.proofs.Common.{◌≡◌, ℕ, ◌+◌, ◌<◌, ◌≤◌, Bool, true, false, ◌&&◌, ◌||◌, T, eqb, ltb, ◌⊎◌, List, [], ◌∷◌, ◌++◌, sym, refl, ap, ◌∙◌, subst, inl, inr, arith, ltb-false, ltb-true, lt-ltb, eqb-true, Ok, Some}
 use borrow.Author.Tests.{eqb-false}
+use Rattle.std.proofs.lemmas.Bool.{or_from}
+use Rattle.std.proofs.lemmas.List.Folds.{list_any-append}
 use Rattle.disks.specs.Device.{Device, Io, answer, run, Ran, Upto, here, shown, latest, synced, then', AfterCut}
 use Rattle.compose.proofs.Compose.{run_then, upto_then, upto_map}
 use Rattle.journal.specs.Scans.{scan_start, scanned, higher}
@@ -19,19 +21,14 @@ use Rattle.recovery.proofs.Writing.{alike_shown, upto_other, all_upto, all_shown
 use Rattle.recovery.proofs.Sound.{found_is}
 use Rattle.recovery.proofs.Scanning.{Ours, seen, high_left, high_right, high_most}
 use Rattle.recovery.proofs.Mixing.{number_in, writes_in}
-use Rattle.recovery.proofs.Redoing.{slot_of, scan_run, scan_upto, redone, all_done, redo_run, redo_upto, found_in_area}
+use Rattle.recovery.proofs.Redoing.{slot_of, slot_low, slot_run, scan_upto, redone, all_done, redo_run, redo_upto, found_in_area}
 use Rattle.recovery.proofs.Inv.{Can, IsSector, redone_with, Off, On, ours_more, writes_in_cong, redone-by, can-cut, can-quiet}
 use Rattle.recovery.proofs.Cutting.{Order, per_slot, off_of, order_cong, both_cong, rest-cut}
 
 -- writes of both slots stay in the guarded area
 area-append : (xs ys : List Write) (s : ℕ) → named s xs ≡ false → named s ys ≡ false → named s (xs ++ ys) ≡ false
 unfolding named
-area-append [] ys s a b = b
-area-append (x ∷ xs) ys s a b = go (eqb s x.target.0) a (λ q. area-append xs ys s q b)
-  where
-    go : (c : Bool) → c || named s xs ≡ false → (named s xs ≡ false → named s (xs ++ ys) ≡ false) → c || named s (xs ++ ys) ≡ false
-    go true q more = absurd (subst T q tt)
-    go false q more = more q
+area-append xs ys s a b = list_any-append (λ (w : Write). eqb s w.target.0) xs ys ∙ or_from (named s xs) (named s ys) a b
 
 module _ (size n : ℕ) (array : ℕ → List ℕ) (d : Device) (off : Off size n array d) where
   -- numbers stay below the limit by themselves
@@ -48,11 +45,7 @@ module _ (size n : ℕ) (array : ℕ → List ℕ) (d : Device) (off : Off size 
     again = redone size n d off.ours o
 
     not_journal : (slot : Slot) (i : ℕ) → i < 480 → named (base slot + i) again ≡ false
-    not_journal slot i l = area-append (writes_in size (slot_of d o)) (writes_in size (slot_of d (other o))) (base slot + i) (below-area size (writes_in size (slot_of d o)) (base slot + i) (found_in_area size n (slot_of d o) (off.ours o)) (low slot)) (below-area size (writes_in size (slot_of d (other o))) (base slot + i) (found_in_area size n (slot_of d (other o)) (off.ours (other o))) (low slot))
-      where
-        low : (slot : Slot) → base slot + i < 960
-        low First = omega arith
-        low Second = omega arith
+    not_journal slot i l = area-append (writes_in size (slot_of d o)) (writes_in size (slot_of d (other o))) (base slot + i) (below-area size (writes_in size (slot_of d o)) (base slot + i) (found_in_area size n (slot_of d o) (off.ours o)) (slot_low slot i l)) (below-area size (writes_in size (slot_of d (other o))) (base slot + i) (found_in_area size n (slot_of d (other o)) (off.ours (other o))) (slot_low slot i l))
 
     value : (s : ℕ) → T (in_area size s) → last again (shown d s) s ≡ array s
     value s t = ap (λ (ws : List Write). last ws (shown d s) s) (sym by) ∙ off.holds s t
@@ -145,10 +138,6 @@ module _ (size n : ℕ) (array : ℕ → List ℕ) (d : Device) (off : Off size 
       go false q = (inl (omega (arith, eqb-false (number_in size (slot_of d First)) (number_in size (slot_of d Second)) q, ltb-false (number_in size (slot_of d Second)) (number_in size (slot_of d First)) e)), rw e)
 
   -- THE PROGRAM: both scans read only
-  pub scan_is : (slot : Slot) → run (scan_io size slot) d ≡ record { value = scanned size (slot_of d slot) 480; device = d }
-  unfolding scanned
-  scan_is slot = scan_run size (base slot) d 0 480
-
   abbrev scan : Slot → Scan
   scan slot = scanned size (slot_of d slot) 480
 
@@ -168,9 +157,9 @@ module _ (size n : ℕ) (array : ℕ → List ℕ) (d : Device) (off : Off size 
   unfolding open_io run
   open_run o x =
       run_then (scan_io size First) (λ a. then' (scan_io size Second) (λ b. recover_io size a b)) d
-      ∙ ap (λ (r : Ran Scan). run (then' (scan_io size Second) (λ b. recover_io size r.value b)) r.device) (scan_is First)
+      ∙ ap (λ (r : Ran Scan). run (then' (scan_io size Second) (λ b. recover_io size r.value b)) r.device) (slot_run size d First)
       ∙ run_then (scan_io size Second) (λ b. recover_io size (scan First) b) d
-      ∙ ap (λ (r : Ran Scan). run (recover_io size (scan First) r.value) r.device) (scan_is Second)
+      ∙ ap (λ (r : Ran Scan). run (recover_io size (scan First) r.value) r.device) (slot_run size d Second)
       ∙ ap (λ (p : Io Opened). run p d) (recover_is o x)
       ∙ run_then (redo_io o (scan o) (scan (other o))) (λ _. answer (Ok (ready size o (scan o) (scan (other o))))) d
       ∙ ap (λ (r : Ran (Unit {0})). record { value = Ok (ready size o (scan o) (scan (other o))); device = r.device }) (redo_run size n d off.ours o)
@@ -181,7 +170,7 @@ module _ (size n : ℕ) (array : ℕ → List ℕ) (d : Device) (off : Off size 
   open_upto o x e u =
       elim (upto_then (scan_io size First) (λ a. then' (scan_io size Second) (λ b. recover_io size a b)) d e u) [
         | inl v ↦ still (scan_upto size (base First) 0 480 scan_start d e v)
-        | inr v ↦ second-scan (subst (λ (r : Ran Scan). Upto (then' (scan_io size Second) (λ b. recover_io size r.value b)) r.device e) (scan_is First) v)
+        | inr v ↦ second-scan (subst (λ (r : Ran Scan). Upto (then' (scan_io size Second) (λ b. recover_io size r.value b)) r.device e) (slot_run size d First) v)
       ]
     where
       still : e ≡ d → Upto (write_all_io (redone size n d off.ours o)) d e ⊎ (e ≡ synced (all_done size n d off.ours o))
@@ -194,7 +183,7 @@ module _ (size n : ℕ) (array : ℕ → List ℕ) (d : Device) (off : Off size 
       second-scan v =
           elim (upto_then (scan_io size Second) (λ b. recover_io size (scan First) b) d e v) [
             | inl w ↦ still (scan_upto size (base Second) 0 480 scan_start d e w)
-            | inr w ↦ then_rest (subst (λ (p : Io Opened). Upto p d e) (recover_is o x) (subst (λ (r : Ran Scan). Upto (recover_io size (scan First) r.value) r.device e) (scan_is Second) w))
+            | inr w ↦ then_rest (subst (λ (p : Io Opened). Upto p d e) (recover_is o x) (subst (λ (r : Ran Scan). Upto (recover_io size (scan First) r.value) r.device e) (slot_run size d Second) w))
           ]
 
   pub which : (o : Slot) × Older o

@@ -4,7 +4,7 @@ use Rattle.disks.specs.Device.{Device, Io, answer, sync, run, Ran, Upto, here, r
 use Rattle.compose.proofs.Compose.{run_then, upto_then}
 use Rattle.journal.specs.Format.{part_of, half_of}
 use Rattle.journal.specs.Scans.{scan_next, scanned, count_of, redo_count, write_at, writes_from}
-use Rattle.journal.specs.Programs.{base, other, write_all_io, all_in_area, scan_from, replay_from, redo_io}
+use Rattle.journal.specs.Programs.{base, other, write_all_io, all_in_area, scan_from, scan_io, replay_from, redo_io}
 use Rattle.journal.specs.declared.part.Part.{Part}
 use Rattle.journal.specs.declared.scan.Record.{Record}
 use Rattle.journal.specs.declared.scan.Scan.{Scan}
@@ -16,7 +16,8 @@ use Rattle.recovery.proofs.Writing.{alike_shown, upto_other, all_upto, written_o
 use Rattle.recovery.proofs.Sound.{found_is}
 use Rattle.recovery.proofs.Scanning.{Ours, Whole, whole_found}
 use Rattle.recovery.proofs.Mixing.{writes_in, none-writes, whole-count}
-use Rattle.recovery.proofs.Tests.{both, join, is_so}
+use Rattle.octets.proofs.Numbers.{both, join}
+use Rattle.recovery.proofs.Tests.{is_so}
 
 -- SCANS
 pub scan_run : (size at : ℕ) (d : Device) (i k : ℕ) → run (scan_from size at i k (scanned size (λ q. shown d (at + q)) i)) d ≡ record { value = scanned size (λ q. shown d (at + q)) (i + k); device = d }
@@ -129,9 +130,18 @@ redo_few s = go s.whole
 abbrev pub slot_of : Device → Slot → ℕ → List ℕ
 slot_of d slot q = shown d (base slot + q)
 
-slot_low : (slot : Slot) (q : ℕ) → q < 480 → base slot + q < 960
+pub slot_low : (slot : Slot) (q : ℕ) → q < 480 → base slot + q < 960
 slot_low First q l = omega arith
 slot_low Second q l = omega arith
+
+-- a record lies within its slot
+pub slot_room : (slot : Slot) (s : Scan) → base slot + 2 * (0 + redo_count s) ≤ 960
+slot_room First s = omega (arith, redo_few s)
+slot_room Second s = omega (arith, redo_few s)
+
+pub slot_run : (size : ℕ) (d : Device) (slot : Slot) → run (scan_io size slot) d ≡ record { value = scanned size (slot_of d slot) 480; device = d }
+unfolding scanned
+slot_run size d slot = scan_run size (base slot) d 0 480
 
 abbrev pub settle_io : Io (Unit {0})
 settle_io = sync (answer tt)
@@ -149,18 +159,10 @@ module _ (size most : ℕ) (d : Device) (ours : (slot : Slot) (i : ℕ) → i < 
   same_after q l = alike_shown (upto_other (writes_in size (slot_of d older)) d first (base (other older) + q) (below-area size (writes_in size (slot_of d older)) (base (other older) + q) (found_in_area size most (slot_of d older) (ours older)) (slot_low (other older) q l)) (all_upto (writes_in size (slot_of d older)) d))
 
   pub one_run : run (replay_from (base older) 0 (redo_count (scanned size (slot_of d older) 480))) d ≡ run (write_all_io (writes_in size (slot_of d older))) d
-  one_run = replay_run size (base older) (slot_of d older) 0 _ d (room older) (found_in_area size most (slot_of d older) (ours older)) (λ q l. refl)
-    where
-      room : (slot : Slot) → base slot + 2 * (0 + redo_count (scanned size (slot_of d older) 480)) ≤ 960
-      room First = omega (arith, redo_few (scanned size (slot_of d older) 480))
-      room Second = omega (arith, redo_few (scanned size (slot_of d older) 480))
+  one_run = replay_run size (base older) (slot_of d older) 0 _ d (slot_room older (scanned size (slot_of d older) 480)) (found_in_area size most (slot_of d older) (ours older)) (λ q l. refl)
 
   two_run : run (replay_from (base (other older)) 0 (redo_count (scanned size (slot_of d (other older)) 480))) first ≡ run (write_all_io (writes_in size (slot_of d (other older)))) first
-  two_run = replay_run size (base (other older)) (slot_of d (other older)) 0 _ first (room (other older)) (found_in_area size most (slot_of d (other older)) (ours (other older))) (λ q l. same_after q (omega (arith, redo_few (scanned size (slot_of d (other older)) 480))))
-    where
-      room : (slot : Slot) → base slot + 2 * (0 + redo_count (scanned size (slot_of d (other older)) 480)) ≤ 960
-      room First = omega (arith, redo_few (scanned size (slot_of d (other older)) 480))
-      room Second = omega (arith, redo_few (scanned size (slot_of d (other older)) 480))
+  two_run = replay_run size (base (other older)) (slot_of d (other older)) 0 _ first (slot_room (other older) (scanned size (slot_of d (other older)) 480)) (found_in_area size most (slot_of d (other older)) (ours (other older))) (λ q l. same_after q (omega (arith, redo_few (scanned size (slot_of d (other older)) 480))))
 
   abbrev pub all_done : Device
   all_done = (run (write_all_io redone) d).device
@@ -180,14 +182,10 @@ module _ (size most : ℕ) (d : Device) (ours : (slot : Slot) (i : ℕ) → i < 
   unfolding redo_io run
   redo_upto e u =
       elim (upto_then (replay_from (base older) 0 (redo_count (scanned size (slot_of d older) 480))) (λ _. then' (replay_from (base (other older)) 0 (redo_count (scanned size (slot_of d (other older)) 480))) (λ _. settle_io)) d e u) [
-        | inl v ↦ inl (upto_front (writes_in size (slot_of d older)) (writes_in size (slot_of d (other older))) d e (replay_upto size (base older) (slot_of d older) 0 _ d e (room older (scanned size (slot_of d older) 480)) (found_in_area size most (slot_of d older) (ours older)) (λ q l. refl) v))
+        | inl v ↦ inl (upto_front (writes_in size (slot_of d older)) (writes_in size (slot_of d (other older))) d e (replay_upto size (base older) (slot_of d older) 0 _ d e (slot_room older (scanned size (slot_of d older) 480)) (found_in_area size most (slot_of d older) (ours older)) (λ q l. refl) v))
         | inr v ↦ later (subst (λ (x : Ran (Unit {0})). Upto (then' (replay_from (base (other older)) 0 (redo_count (scanned size (slot_of d (other older)) 480))) (λ _. settle_io)) x.device e) one_run v)
       ]
     where
-      room : (slot : Slot) (s : Scan) → base slot + 2 * (0 + redo_count s) ≤ 960
-      room First s = omega (arith, redo_few s)
-      room Second s = omega (arith, redo_few s)
-
       ended : (x f : Device) → x ≡ all_done → Upto settle_io x f → Upto (write_all_io redone) d f ⊎ (f ≡ synced all_done)
       ended x f q here = inl (subst (λ (y : Device). Upto (write_all_io redone) d y) (sym q) (all_upto redone d))
       ended x f q (syncs here) = inr (ap synced q)
@@ -195,6 +193,6 @@ module _ (size most : ℕ) (d : Device) (ours : (slot : Slot) (i : ℕ) → i < 
       later : Upto (then' (replay_from (base (other older)) 0 (redo_count (scanned size (slot_of d (other older)) 480))) (λ _. settle_io)) first e → Upto (write_all_io redone) d e ⊎ (e ≡ synced all_done)
       later v =
           elim (upto_then (replay_from (base (other older)) 0 (redo_count (scanned size (slot_of d (other older)) 480))) (λ _. settle_io) first e v) [
-            | inl z ↦ inl (upto_behind (writes_in size (slot_of d older)) (writes_in size (slot_of d (other older))) d e (replay_upto size (base (other older)) (slot_of d (other older)) 0 _ first e (room (other older) (scanned size (slot_of d (other older)) 480)) (found_in_area size most (slot_of d (other older)) (ours (other older))) (λ q l. same_after q (omega (arith, redo_few (scanned size (slot_of d (other older)) 480)))) z))
+            | inl z ↦ inl (upto_behind (writes_in size (slot_of d older)) (writes_in size (slot_of d (other older))) d e (replay_upto size (base (other older)) (slot_of d (other older)) 0 _ first e (slot_room (other older) (scanned size (slot_of d (other older)) 480)) (found_in_area size most (slot_of d (other older)) (ours (other older))) (λ q l. same_after q (omega (arith, redo_few (scanned size (slot_of d (other older)) 480)))) z))
             | inr z ↦ ended (run (replay_from (base (other older)) 0 (redo_count (scanned size (slot_of d (other older)) 480))) first).device e (ap (λ (x : Ran (Unit {0})). x.device) (two_run ∙ sym (all_append (writes_in size (slot_of d older)) (writes_in size (slot_of d (other older))) d))) z
           ]

@@ -1,6 +1,7 @@
 -- What a scan of a slot comes to: it finds a record exactly where each of the record's sectors carries its number and length.
 use Rattle.std.proofs.Common.{◌≡◌, ℕ, zero, suc, ◌<◌, ◌≤◌, Bool, true, false, cond, ◌&&◌, ◌||◌, eqb, ltb, leb, ◌≢◌, ◌⊎◌, List, sym, refl, ap, ◌∙◌, subst, inl, inr, arith, ltb-false, ltb-true, eq-eqb, ne_eqb, eqb-true, le-leb, leb-false, leb-true, Some, None, Option, Ok, Err}
 use borrow.Author.Tests.{eqb-false}
+use Rattle.std.proofs.lemmas.Bool.{and_parts, cond_both}
 use Rattle.journal.specs.Format.{Found, found}
 use Rattle.journal.specs.Scans.{scan_start, higher, still, scan_part, scan_found, scanned}
 use Rattle.journal.specs.declared.part.Part.{Part}
@@ -8,7 +9,6 @@ use Rattle.journal.specs.declared.part.Foreign.{Foreign}
 use Rattle.journal.specs.declared.scan.Record.{Record}
 use Rattle.journal.specs.declared.scan.Scan.{Scan}
 use Rattle.recovery.proofs.Sound.{found_is}
-use Rattle.recovery.proofs.Tests.{both_so}
 
 -- a sector is blank, or a part of a record whose number is no higher than this
 abbrev pub Ours : (size most i : ℕ) → List ℕ → Type 0
@@ -32,25 +32,13 @@ no-record q = let c : ◌≡◌ {A = ℕ} 0 1 = cc in absurd (omega arith)
 
 -- the higher of two numbers
 pub high_left : (a b : ℕ) → a ≤ higher a b
-high_left a b = go (ltb a b) refl
-  where
-    go : (x : Bool) → ltb a b ≡ x → a ≤ cond x b a
-    go true q = omega (arith, ltb-true a b q)
-    go false q = omega arith
+high_left a b = cond_both (ltb a b) b a (λ x. a ≤ x) (λ q. omega (arith, ltb-true a b q)) (λ q. omega arith)
 
 pub high_right : (a b : ℕ) → b ≤ higher a b
-high_right a b = go (ltb a b) refl
-  where
-    go : (x : Bool) → ltb a b ≡ x → b ≤ cond x b a
-    go true q = omega arith
-    go false q = omega (arith, ltb-false a b q)
+high_right a b = cond_both (ltb a b) b a (λ x. b ≤ x) (λ q. omega arith) (λ q. omega (arith, ltb-false a b q))
 
 pub high_most : (a b m : ℕ) → a ≤ m → b ≤ m → higher a b ≤ m
-high_most a b m h k = go (ltb a b)
-  where
-    go : (x : Bool) → cond x b a ≤ m
-    go true = k
-    go false = h
+high_most a b m h k = cond_both (ltb a b) b a (λ x. x ≤ m) (λ q. k) (λ q. h)
 
 module _ (size : ℕ) (g : ℕ → List ℕ) where
   -- one more sector, by what it is found to be
@@ -163,7 +151,7 @@ module _ (size : ℕ) (g : ℕ → List ℕ) where
         where
           alike : (x : Bool) → leb r.length k ≡ x → x || (eqb p.number r.number && eqb p.length r.length) ≡ true → k < r.length → (p.number ≡ r.number) × (p.length ≡ r.length)
           alike true a b c = absurd (omega (arith, leb-true r.length k a))
-          alike false a b c = let t = both_so (eqb p.number r.number) (eqb p.length r.length) b in (eqb-true p.number r.number t.0, eqb-true p.length r.length t.1)
+          alike false a b c = let t = and_parts (eqb p.number r.number) (eqb p.length r.length) b in (eqb-true p.number r.number t.0, eqb-true p.length r.length t.1)
 
           pick : (i : ℕ) → i < suc k → i < r.length → is_of k p r ≡ true → SoFar k r → (x : Bool) → eqb i k ≡ x → Has size g r.number r.length i
           pick i a b c f true q = let same = eqb-true i k q in let t = alike (leb r.length k) refl c (omega arith) in subst (Has size g r.number r.length) (sym same) (p, e, t.0, t.1)

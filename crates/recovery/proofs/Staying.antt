@@ -17,13 +17,14 @@ use Rattle.journal.specs.declared.state.Slot.TheVariants.{First, Second}
 use Rattle.journal.specs.declared.state.Journal.{Journal}
 use Rattle.recovery.proofs.Sound.{bytes-append}
 use Rattle.recovery.proofs.Records.{sector-bytes}
-use Rattle.recovery.proofs.Redoing.{slot_of, found_in_area, redo_few, one_run, same_after, apart_from, further}
+use Rattle.recovery.proofs.Redoing.{slot_of, slot_room, slot_run, found_in_area, redo_few, one_run, same_after, apart_from, further}
 use Rattle.recovery.proofs.Mixing.{writes_in}
 use Rattle.recovery.proofs.Inv.{IsSector, Off, On}
-use Rattle.recovery.proofs.Opening.{scan_is, recover_is, which}
+use Rattle.recovery.proofs.Opening.{recover_is, which}
 use Rattle.recovery.proofs.Calls.{fine}
 use Rattle.recovery.proofs.Keeping.{held, Inv}
-use Rattle.recovery.proofs.Tests.{both, is_so}
+use Rattle.octets.proofs.Numbers.{both}
+use Rattle.recovery.proofs.Tests.{is_so}
 
 -- what each write of a list must be
 pub data Good (size : ℕ) : List Write → Type 0 where
@@ -85,18 +86,14 @@ module _ (size n : ℕ) (array : ℕ → List ℕ) (d : Device) (off' : Off size
   abbrev scan : Slot → Scan
   scan slot = scanned size (slot_of d slot) 480
 
-  room : (slot : Slot) (s : Scan) → base slot + 2 * (0 + redo_count s) ≤ 960
-  room First s = omega (arith, redo_few s)
-  room Second s = omega (arith, redo_few s)
-
   fair_redo : (o : Slot) → Fair size (redo_io o (scan o) (scan (other o))) d
   unfolding redo_io run
   fair_redo o =
       fair_then size (replay_from (base o) 0 (redo_count (scan o))) (λ _. then' (replay_from (base (other o)) 0 (redo_count (scan (other o)))) (λ _. sync (answer tt))) d
-      (fair_replay size (base o) (slot_of d o) (omega arith) 0 (redo_count (scan o)) d (room o (scan o)) (found_in_area size n (slot_of d o) (off'.ours o)) (λ q l. off'.bytes o q (omega (arith, redo_few (scan o)))) (λ q l. refl))
+      (fair_replay size (base o) (slot_of d o) (omega arith) 0 (redo_count (scan o)) d (slot_room o (scan o)) (found_in_area size n (slot_of d o) (off'.ours o)) (λ q l. off'.bytes o q (omega (arith, redo_few (scan o)))) (λ q l. refl))
       (subst (λ (r : Ran (Unit {0})). Fair size (then' (replay_from (base (other o)) 0 (redo_count (scan (other o)))) (λ _. sync (answer tt))) r.device) (sym (one_run size n d off'.ours o))
       (fair_then size (replay_from (base (other o)) 0 (redo_count (scan (other o)))) (λ _. sync (answer tt)) (run (write_all_io (writes_in size (slot_of d o))) d).device
-      (fair_replay size (base (other o)) (slot_of d (other o)) (omega arith) 0 (redo_count (scan (other o))) (run (write_all_io (writes_in size (slot_of d o))) d).device (room (other o) (scan (other o))) (found_in_area size n (slot_of d (other o)) (off'.ours (other o))) (λ q l. off'.bytes (other o) q (omega (arith, redo_few (scan (other o))))) (λ q l. same_after size n d off'.ours o q (omega (arith, redo_few (scan (other o))))))
+      (fair_replay size (base (other o)) (slot_of d (other o)) (omega arith) 0 (redo_count (scan (other o))) (run (write_all_io (writes_in size (slot_of d o))) d).device (slot_room (other o) (scan (other o))) (found_in_area size n (slot_of d (other o)) (off'.ours (other o))) (λ q l. off'.bytes (other o) q (omega (arith, redo_few (scan (other o))))) (λ q l. same_after size n d off'.ours o q (omega (arith, redo_few (scan (other o))))))
       (Fair.syncs (Fair.ends tt _))))
 
   fair_slot : (slot : Slot) → Fair size (scan_io size slot) d
@@ -108,8 +105,8 @@ module _ (size n : ℕ) (array : ℕ → List ℕ) (d : Device) (off' : Off size
   fair_open =
       let (o, x) = which size n array d off' in
       let last' : Fair size (recover_io size (scan First) (scan Second)) d = subst (λ (p : Io Opened). Fair size p d) (sym (recover_is size n array d off' o x)) (fair_then size (redo_io o (scan o) (scan (other o))) (λ _. answer (Ok (ready size o (scan o) (scan (other o))))) d (fair_redo o) (Fair.ends _ _)) in
-      let second' = fair_then size (scan_io size Second) (λ b. recover_io size (scan First) b) d (fair_slot Second) (subst (λ (r : Ran Scan). Fair size (recover_io size (scan First) r.value) r.device) (sym (scan_is size n array d off' Second)) last') in
-      fair_then size (scan_io size First) (λ a. then' (scan_io size Second) (λ b. recover_io size a b)) d (fair_slot First) (subst (λ (r : Ran Scan). Fair size (then' (scan_io size Second) (λ b. recover_io size r.value b)) r.device) (sym (scan_is size n array d off' First)) second')
+      let second' = fair_then size (scan_io size Second) (λ b. recover_io size (scan First) b) d (fair_slot Second) (subst (λ (r : Ran Scan). Fair size (recover_io size (scan First) r.value) r.device) (sym (slot_run size d Second)) last') in
+      fair_then size (scan_io size First) (λ a. then' (scan_io size Second) (λ b. recover_io size a b)) d (fair_slot First) (subst (λ (r : Ran Scan). Fair size (then' (scan_io size Second) (λ b. recover_io size r.value b)) r.device) (sym (slot_run size d First)) second')
 
 -- CALLS
 module _ (size n : ℕ) (array : ℕ → List ℕ) (j : Journal) (d : Device) (o : On size n array j d) (large : 4096 ≤ size) (fits : size ≤ 1099511627776) where
