@@ -43,10 +43,10 @@ impl<F: Places> FileDisk<F> {
     }
 
     // What came of a request to the file; if it failed, the disk answers no more.
-    // A match: with map_err and a closure that gives up, nothing is known of the disk where the closure isn't called.
     fn answer(&mut self, done: io::Result<()>) -> Result<(), Fault>
         ensures { Ended done self.old result self.new }
     {
+        // Tried with `map_err`: the proof doesn't close where the file answered, since nothing says that a closure that isn't called leaves the disk as it was.
         match done {
             Ok(()) => Ok(()),
             Err(_) => Err(self.give_up()),
