@@ -193,7 +193,10 @@ pub extern "C" fn wire_put_call(
 ) -> usize
     ensures { 0 < result → PutCall kind (first ∷ second ∷ third ∷ []) content.now (take result out.new) }
 {
-    hand_out(encoded_call(heap, kind, [first, second, third], content), out)
+    hand_out(
+        encoded_call(heap, kind, [first, second, third], content),
+        out,
+    )
 }
 
 // The answer of a case with these numbers and, where it is one, this sector.
