@@ -14,7 +14,9 @@ pub struct Record {
 }
 
 // whole: the record that the slot begins with, while all its sectors so far are its own; highest: the highest number of any sector;
-// ours: no sector was foreign, a flag, since the scan goes on behind a foreign sector: a slot is always read to its end.
+// ours: no sector was foreign; a slot is read to its end also behind a foreign sector.
+// tried without the flag, as `next -> Result<Scan, Foreign>` and `found.and_then(|f| f.next(..))` in the loop of `open`: `next` was proved, but
+// in the crate device the loop's invariant had no index, which the closure borrows, and `returns-in_err-redo` of `recover` stayed open.
 #[derive(Clone, Copy)]
 pub struct Scan {
     pub whole: Option<Record>,
