@@ -47,14 +47,14 @@ fn redo<D: Disk>(disk: &mut D, found: InOrder) -> Result<(), Fault>
 pub(crate) fn recover<D: Disk>(
     disk: &mut D,
     size: u64,
-    a: Scan,
-    b: Scan,
+    a: Result<Scan, Foreign>,
+    b: Result<Scan, Foreign>,
 ) -> Result<Journal, Failed<Foreign>>
     ensures { Does D.did (recover_io size a b) disk.old (told result) disk.new }
 {
-    if !(a.ours && b.ours) {
+    let (Ok(a), Ok(b)) = (a, b) else {
         return Err(Failed::Refused(Foreign));
-    }
+    };
     let found = InOrder::of(a, b);
     redo(disk, found)?;
     Ok(Journal::ready(size, found))

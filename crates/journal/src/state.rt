@@ -91,6 +91,8 @@ impl Slot {
 
 impl InOrder {
     // The lower number is the older record's; a slot without a record comes before one with a record.
+    // tried as `second.redo_number() < first.redo_number()`: `returns-then-lt` stayed open, since `in_order` takes the number 0, which no
+    // sound part has but a `Scan` can hold, for no record, and the order of `Option` doesn't.
     pub fn of(first: Scan, second: Scan) -> InOrder
         ensures { result ≡ in_order first second }
     {

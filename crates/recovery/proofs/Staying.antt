@@ -5,7 +5,7 @@ use Rattle.disks.specs.Device.{Device, Io, answer, read, write, sync, run, Ran, 
 use Rattle.compose.proofs.Inside.{fair_then}
 use Rattle.octets.proofs.Fields.{bytes_take, bytes_drop}
 use Rattle.journal.specs.Format.{part_of, half_of}
-use Rattle.journal.specs.Scans.{scan_start, scan_next, scanned, redo_count, write_at, writes_from}
+use Rattle.journal.specs.Scans.{Scanned, scan_start, scan_on, redo_count, write_at, writes_from}
 use Rattle.journal.specs.Programs.{base, other, in_area, all_in_area, allowed, write_all_io, record_from, record_of, transact_io, put_io, Put', get_io, after_put, scan_from, scan_io, replay_from, redo_io, recover_io, open_io, ready, Opened}
 use Rattle.recovery.specs.Machines.{Call, Get, Put, Reply, No, put_reply, whole_sectors, call_io, Array, array, JournalWithin}
 use Rattle.journal.specs.declared.state.Refused.TheVariants.{OutOfRange, NumbersUsedUp}
@@ -15,12 +15,13 @@ use Rattle.journal.specs.declared.state.Write.{Write}
 use Rattle.journal.specs.declared.state.Slot.{Slot}
 use Rattle.journal.specs.declared.state.Slot.TheVariants.{First, Second}
 use Rattle.journal.specs.declared.state.Journal.{Journal}
+use Rattle.recovery.proofs.Scanning.{gathered}
 use Rattle.recovery.proofs.Sound.{bytes-append}
 use Rattle.recovery.proofs.Records.{sector-bytes}
-use Rattle.recovery.proofs.Redoing.{slot_of, slot_room, slot_run, found_in_area, redo_few, one_run, same_after, apart_from, further}
+use Rattle.recovery.proofs.Redoing.{slot_of, slot_room, found_in_area, redo_few, one_run, same_after, apart_from, further}
 use Rattle.recovery.proofs.Mixing.{writes_in}
 use Rattle.recovery.proofs.Inv.{IsSector, Off, On}
-use Rattle.recovery.proofs.Opening.{recover_is, which}
+use Rattle.recovery.proofs.Opening.{scan_is, recover_is, which}
 use Rattle.recovery.proofs.Calls.{fine}
 use Rattle.recovery.proofs.Keeping.{held, Inv}
 use Rattle.octets.proofs.Numbers.{both}
@@ -52,10 +53,10 @@ good_record size at n ws some below few area whole fits i zero e l = nil
 good_record size at n ws some below few area whole fits i (suc k) e l = more (omega arith) (sector-bytes size n ws some below few area whole fits i (omega arith)) (good_record size at n ws some below few area whole fits (i + 1) k (omega arith) l)
 
 -- scans
-fair_scan : (size at i k : ℕ) (s : Scan) (d : Device) → at + (i + k) ≤ size → Fair size (scan_from size at i k s) d
+fair_scan : (size at i k : ℕ) (s : Scanned) (d : Device) → at + (i + k) ≤ size → Fair size (scan_from size at i k s) d
 unfolding scan_from
 fair_scan size at i zero s d l = Fair.ends s d
-fair_scan size at i (suc k) s d l = Fair.reads (omega arith) (fair_scan size at (i + 1) k (scan_next size i (shown d (at + i)) s) d (omega arith))
+fair_scan size at i (suc k) s d l = Fair.reads (omega arith) (fair_scan size at (i + 1) k (scan_on size i (shown d (at + i)) s) d (omega arith))
 
 -- halves make a sector
 halves : (a b : List ℕ) → IsSector a → IsSector b → IsSector (half_of a ++ half_of b)
@@ -84,7 +85,7 @@ module _ (size at : ℕ) (g : ℕ → List ℕ) (large : 960 ≤ size) where
 -- OPENING
 module _ (size n : ℕ) (array : ℕ → List ℕ) (d : Device) (off' : Off size n array d) (large : 4096 ≤ size) where
   abbrev scan : Slot → Scan
-  scan slot = scanned size (slot_of d slot) 480
+  scan slot = gathered size (slot_of d slot) 480
 
   fair_redo : (o : Slot) → Fair size (redo_io o (scan o) (scan (other o))) d
   unfolding redo_io run
@@ -97,16 +98,16 @@ module _ (size n : ℕ) (array : ℕ → List ℕ) (d : Device) (off' : Off size
       (Fair.syncs (Fair.ends tt _))))
 
   fair_slot : (slot : Slot) → Fair size (scan_io size slot) d
-  fair_slot First = fair_scan size 0 0 480 scan_start d (omega arith)
-  fair_slot Second = fair_scan size 480 0 480 scan_start d (omega arith)
+  fair_slot First = fair_scan size 0 0 480 (Ok scan_start) d (omega arith)
+  fair_slot Second = fair_scan size 480 0 480 (Ok scan_start) d (omega arith)
 
   pub fair_open : Fair size (open_io size) d
   unfolding open_io run
   fair_open =
       let (o, x) = which size n array d off' in
-      let last' : Fair size (recover_io size (scan First) (scan Second)) d = subst (λ (p : Io Opened). Fair size p d) (sym (recover_is size n array d off' o x)) (fair_then size (redo_io o (scan o) (scan (other o))) (λ _. answer (Ok (ready size o (scan o) (scan (other o))))) d (fair_redo o) (Fair.ends _ _)) in
-      let second' = fair_then size (scan_io size Second) (λ b. recover_io size (scan First) b) d (fair_slot Second) (subst (λ (r : Ran Scan). Fair size (recover_io size (scan First) r.value) r.device) (sym (slot_run size d Second)) last') in
-      fair_then size (scan_io size First) (λ a. then' (scan_io size Second) (λ b. recover_io size a b)) d (fair_slot First) (subst (λ (r : Ran Scan). Fair size (then' (scan_io size Second) (λ b. recover_io size r.value b)) r.device) (sym (slot_run size d First)) second')
+      let last' : Fair size (recover_io size (Ok (scan First)) (Ok (scan Second))) d = subst (λ (p : Io Opened). Fair size p d) (sym (recover_is size n array d off' o x)) (fair_then size (redo_io o (scan o) (scan (other o))) (λ _. answer (Ok (ready size o (scan o) (scan (other o))))) d (fair_redo o) (Fair.ends _ _)) in
+      let second' = fair_then size (scan_io size Second) (λ b. recover_io size (Ok (scan First)) b) d (fair_slot Second) (subst (λ (r : Ran Scanned). Fair size (recover_io size (Ok (scan First)) r.value) r.device) (sym (scan_is size n array d off' Second)) last') in
+      fair_then size (scan_io size First) (λ a. then' (scan_io size Second) (λ b. recover_io size a b)) d (fair_slot First) (subst (λ (r : Ran Scanned). Fair size (then' (scan_io size Second) (λ b. recover_io size r.value b)) r.device) (sym (scan_is size n array d off' First)) second')
 
 -- CALLS
 module _ (size n : ℕ) (array : ℕ → List ℕ) (j : Journal) (d : Device) (o : On size n array j d) (large : 4096 ≤ size) (fits : size ≤ 1099511627776) where
