@@ -11,12 +11,7 @@ use std::fmt::Write;
 fn value(digit: u8) -> Option<u8>
     ensures { result ≡ digit_of digit }
 {
-    match digit {
-        b'0'..=b'9' => Some(digit - b'0'),
-        b'a'..=b'f' => Some(digit - b'a' + 10),
-        b'A'..=b'F' => Some(digit - b'A' + 10),
-        _ => None,
-    }
+    u8::try_from(char::from(digit).to_digit(16)?).ok()
 }
 
 // The byte that two digits spell.
@@ -69,6 +64,7 @@ impl fmt::Display for Hex<'_> {
     ghost output = { λ h. Some (hex_of h.0.now) };
 
     fn fmt<W: fmt::Write>(&self, f: &mut fmt::Formatter<W>) -> fmt::Result {
+        // Tried as `{b:02x}`: `loop-b-preserved` stayed open, since it asks what padding makes of each byte's digits.
         for b in self.0 {
             f.write_char(char::from(digit(*b / 16)))?;
             f.write_char(char::from(digit(*b % 16)))?;
