@@ -50,6 +50,7 @@ fn transactions(disk: &mut FileDisk<File>, writes: &[Write], times: u64) -> anyh
     Ok(())
 }
 
+// What is printed is this alone, whatever failed: a cause behind it would be printed too.
 fn failed<E: Drop>(_: E) -> anyhow::Error {
     anyhow!("{FAILED}")
 }
