@@ -72,3 +72,16 @@ impl fmt::Display for Hex<'_> {
         Ok(())
     }
 }
+
+#[cfg(test)]
+mod tests {
+    use super::*;
+    use std::test::Fail;
+
+    #[test]
+    fn bytes_are_spelled_in_lower_case(rt: HostRuntime) -> Result<(), Fail> {
+        let out = encode(rt.alloc(), &[0, 255, 16])?;
+        assert_eq!(rt; out.as_slice(), b"00ff10".as_slice());
+        Ok(())
+    }
+}

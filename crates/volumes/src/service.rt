@@ -89,15 +89,6 @@ fn tells(answer: Answer<'_>) -> Outcome<'_>
     }
 }
 
-fn address(hold: Hold, sector: Sector) -> Address
-    ensures { result ≡ record { volume = hold.volume; sector = sector } }
-{
-    Address {
-        volume: hold.volume,
-        sector,
-    }
-}
-
 // The head of a volume that is used under its present token, and where it stands.
 fn held(heads: &[Head], hold: Hold) -> Result<(usize, Head), Refusal>
     ensures { MatchResult result (λ p. Holds hold.volume.0 hold.token.0 heads.now p.0 p.1) (λ e. HeldBack hold.volume.0 hold.token.0 heads.now (refusal_number e)) }
@@ -189,7 +180,7 @@ impl Volumes {
         self.heads[at].used = used;
         Ok(Outcome {
             answer: Answer::Yes,
-            change: Some(Change::Put(address(hold, sector), content)),
+            change: Some(Change::Put(hold.at(sector), content)),
         })
     }
 
@@ -288,7 +279,7 @@ pub fn needs(call: &Call) -> Option<Address>
     ensures { option_map the_place result ≡ needed (the_call call.now) }
 {
     match *call {
-        Call::Read(hold, sector) | Call::Write(hold, sector, _) => Some(address(hold, sector)),
+        Call::Read(hold, sector) | Call::Write(hold, sector, _) => Some(hold.at(sector)),
         _ => None,
     }
 }
