@@ -149,8 +149,7 @@ impl Trial {
 
 // The seed and how many cuts, by the command line.
 fn asked(rt: &HostRuntime) -> anyhow::Result<(u64, u64)> {
-    let mut words = env::args(rt)?;
-    let _program = words.next();
+    let mut words = env::args(rt)?.skip(1);
     two(&mut words).context(USAGE)
 }
 

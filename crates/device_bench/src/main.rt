@@ -23,8 +23,7 @@ const FAILED: &str = "the device failed";
 
 // How many sectors and how often, by the command line.
 fn asked(rt: &HostRuntime) -> anyhow::Result<(u8, u64)> {
-    let mut words = env::args(rt)?;
-    let _program = words.next();
+    let mut words = env::args(rt)?.skip(1);
     let (sectors, times): (u8, u64) = two(&mut words).context(USAGE)?;
     if usize::from(sectors) > MOST_WRITES {
         return Err(anyhow!("{USAGE}"));
