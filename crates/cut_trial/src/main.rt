@@ -110,9 +110,7 @@ impl Trial {
             }
             return Ok(());
         }
-        let Some(writes) = cut else {
-            return Err(anyhow!("{WRONG}"));
-        };
+        let writes = cut.context(WRONG)?;
         if !self.shows(journal, writes)? {
             return Err(anyhow!("{WRONG}"));
         }

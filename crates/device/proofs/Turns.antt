@@ -1,6 +1,6 @@
 -- What is left of a program that goes through a list or a slot, at each turn of the code's loop.
 -- X-more: one turn, and what is left then; X-all: nothing is left.
-use Rattle.std.proofs.Common.{◌≡◌, ℕ, suc, Bool, true, false, cond, ltb, ◌&&◌, ◌+◌, ◌-◌, ◌*◌, ◌/◌, ◌%◌, ◌<◌, ◌≤◌, List, ◌++◌, length, get_or, take, drop, Ok, Result, sym, refl, subst, arith}
+use Rattle.std.proofs.Common.{◌≡◌, ℕ, suc, Bool, true, false, cond, ltb, ◌+◌, ◌-◌, ◌*◌, ◌/◌, ◌%◌, ◌<◌, ◌≤◌, List, ◌++◌, length, get_or, take, drop, Ok, Result, sym, refl, subst, arith}
 use Rattle.std.proofs.lemmas.List.{drop_more, drop_all}
 use Rattle.disks.specs.Device.{Io, answer, read, write, then'}
 use Rattle.journal.specs.Format.{slot_sectors, part_bytes, part_of, half_of}

@@ -66,6 +66,7 @@ fn blank_writes(heap: Global, sectors: u8) -> Result<Vec<Write>, AllocError> {
 
 fn run(rt: &HostRuntime) -> anyhow::Result<()> {
     let (sectors, times) = asked(rt)?;
+    // As `house` opens it: a crate below both for this chain alone would be no plainer.
     let file = OpenOptions::new()
         .read(true)
         .write(true)

@@ -1,6 +1,6 @@
 -- What is found in a slot of the journal.
 -- Assumes nothing.
-use Rattle.std.specs.Prelude.{ℕ, zero, suc, ◌+◌, ◌*◌, ◌/◌, Bool, true, false, cond, ◌&&◌, ◌||◌, List, [], ◌∷◌, ◌++◌, ◌==◌, nat_le, nat_lt, Some, None, Option, Ok, Err, Result, unwrap_or}
+use Rattle.std.specs.Prelude.{ℕ, zero, suc, ◌+◌, ◌*◌, ◌/◌, Bool, cond, ◌&&◌, ◌||◌, List, [], ◌∷◌, ◌++◌, ◌==◌, nat_le, nat_lt, Some, None, Option, Ok, Err, Result, unwrap_or}
 use Rattle.journal.specs.Format.{slot_sectors, part_of, half_of, Found, found}
 use Rattle.journal.specs.declared.part.Part.{Part}
 use Rattle.journal.specs.declared.part.Foreign.{Foreign}

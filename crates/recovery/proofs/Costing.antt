@@ -1,13 +1,12 @@
 -- What transactions and opening cost, and what opening makes of any device.
-use Rattle.std.proofs.Common.{◌≡◌, ℕ, zero, suc, ◌+◌, ◌*◌, ◌<◌, ◌≤◌, Bool, true, false, cond, ◌&&◌, T, eqb, ltb, ◌≢◌, ◌⊎◌, List, [], ◌∷◌, ◌++◌, length, sym, refl, ap, ◌∙◌, subst, inl, inr, arith, lt-ltb, eqb-true, Ok, Err, Some, None}
+use Rattle.std.proofs.Common.{◌≡◌, ℕ, zero, suc, ◌+◌, ◌*◌, ◌<◌, ◌≤◌, Bool, true, false, cond, T, eqb, ltb, List, [], ◌∷◌, ◌++◌, length, sym, refl, ap, ◌∙◌, subst, arith, lt-ltb, eqb-true, Ok, Err}
 use borrow.Author.Tests.{eqb-false}
 use Rattle.disks.specs.Device.{Device, Io, answer, read, write, sync, run, Ran, shown, written, synced, then'}
 use Rattle.compose.proofs.Compose.{run_then}
-use Rattle.journal.specs.Format.{found, part_of, half_of, foreign, Found}
+use Rattle.journal.specs.Format.{found, part_of, half_of, foreign}
 use Rattle.journal.specs.Scans.{Scanned, scan_start, scan_on, scan_found, scanned, number_or_none, redo_count}
 use Rattle.journal.specs.Programs.{base, other, allowed, write_all_io, record_from, record_of, transact_io, put_io, scan_from, scan_io, replay_from, redo_io, recover_io, open_io, ready, Opened}
 use Rattle.recovery.specs.Promises.{count, PutCosts, OpenCosts, OpensAgain, ForeignRefused, OursOpened}
-use Rattle.journal.specs.declared.part.Part.{Part}
 use Rattle.journal.specs.declared.scan.Scan.{Scan}
 use Rattle.journal.specs.declared.state.Write.{Write}
 use Rattle.journal.specs.declared.state.Slot.{Slot}
