@@ -19,17 +19,17 @@ module _ {M O R : Type 0} (h : House M O R) (q : Pure M O R) (all size limit : �
   Match n j (on' k d) (off s) = ⊥
   Match n j (on' k d) (on m s) = sim.On n j m s k d
 
-  later : (n j : ℕ) (a : Cluster.Stand h.Mem) (b : Stand q.Mem q.D) → Match n j a b → Match (suc n) j a b
+  pub later : (n j : ℕ) (a : Cluster.Stand h.Mem) (b : Stand q.Mem q.D) → Match n j a b → Match (suc n) j a b
   later n j (off' d) (off s) w = sim.off_later n j s d w
   later n j (off' d) (on m s) w = w
   later n j (on' k d) (off s) w = w
   later n j (on' k d) (on m s) w = sim.on_later n j m s k d w
 
-  find_on : (n j : ℕ) (k : h.Mem) (d : Device) (b : Stand q.Mem q.D) → Match n j (on' k d) b → (m : q.Mem) × (s : q.D) × (b ≡ on m s) × sim.On n j m s k d
+  pub find_on : (n j : ℕ) (k : h.Mem) (d : Device) (b : Stand q.Mem q.D) → Match n j (on' k d) b → (m : q.Mem) × (s : q.D) × (b ≡ on m s) × sim.On n j m s k d
   find_on n j k d (off s) w = absurd w
   find_on n j k d (on m s) w = (m, s, refl, w)
 
-  find_off : (n j : ℕ) (d : Device) (b : Stand q.Mem q.D) → Match n j (off' d) b → (s : q.D) × (b ≡ off s) × sim.Off n j s d
+  pub find_off : (n j : ℕ) (d : Device) (b : Stand q.Mem q.D) → Match n j (off' d) b → (s : q.D) × (b ≡ off s) × sim.Off n j s d
   find_off n j d (off s) w = (s, refl, w)
   find_off n j d (on m s) w = absurd w
 
@@ -46,10 +46,10 @@ module _ {M O R : Type 0} (h : House M O R) (q : Pure M O R) (all size limit : �
     pub beside : Beside n w world
 
   module _ (n : ℕ) (w : Cluster.World h.Mem M) (u : World q.Mem q.D M) (l : Beside n w u) (i : ℕ) where
-    is_on : (k : h.Mem) (d : Device) → w.house i ≡ on' k d → (m : q.Mem) × (s : q.D) × (u.house i ≡ on m s) × sim.On n i m s k d
+    pub is_on : (k : h.Mem) (d : Device) → w.house i ≡ on' k d → (m : q.Mem) × (s : q.D) × (u.house i ≡ on m s) × sim.On n i m s k d
     is_on k d e = find_on n i k d (u.house i) (rw e at (l.houses i))
 
-    is_off : (d : Device) → w.house i ≡ off' d → (s : q.D) × (u.house i ≡ off s) × sim.Off n i s d
+    pub is_off : (d : Device) → w.house i ≡ off' d → (s : q.D) × (u.house i ≡ off s) × sim.Off n i s d
     is_off d e = find_off n i d (u.house i) (rw e at (l.houses i))
 
     -- one house comes to be so, and the others stay
@@ -70,17 +70,17 @@ module _ {M O R : Type 0} (h : House M O R) (q : Pure M O R) (all size limit : �
         }
 
     -- power failed
-    fell-down : (s : q.D) (f : Device) → sim.Off (suc n) i s f → Beside (suc n) (Cluster.fallen i f w) (fallen i s u)
+    pub fell-down : (s : q.D) (f : Device) → sim.Off (suc n) i s f → Beside (suc n) (Cluster.fallen i f w) (fallen i s u)
     fell-down s f o = record { houses = goes_on _ _ o; wire_is = l.wire_is; pending_is = cc l.pending_is }
 
     -- power came
     pub came_up : (s : q.D) (d : Device) → sim.On (suc n) i (q.opens i all s).mem (q.opens i all s).stored (run (h.opens i all size) d).value (run (h.opens i all size) d).device → Beside (suc n) (Cluster.risen {O = O} h all size i d w) (risen q all i s u)
     came_up s d o = record { houses = goes_on _ _ o; wire_is = l.wire_is; pending_is = l.pending_is }
 
-    on_wire : (p : Packet M) → Memᴰ p w.wire → Memᴰ p u.wire
+    pub on_wire : (p : Packet M) → Memᴰ p w.wire → Memᴰ p u.wire
     on_wire p m = rw l.wire_is m
 
-    either : (es : List (Seen O R)) (s s' : q.D) (f : Device) → sim.Off (suc n) i s f ⊎ sim.Off (suc n) i s' f → ((z : q.D) → (z ≡ s) ⊎ (z ≡ s') → Trace q all (fell i ∷ es) (fallen i z u)) → Like (suc n) (fell i ∷ es) (Cluster.fallen i f w)
+    pub either : (es : List (Seen O R)) (s s' : q.D) (f : Device) → sim.Off (suc n) i s f ⊎ sim.Off (suc n) i s' f → ((z : q.D) → (z ≡ s) ⊎ (z ≡ s') → Trace q all (fell i ∷ es) (fallen i z u)) → Like (suc n) (fell i ∷ es) (Cluster.fallen i f w)
     either es s s' f (inl o) t = record { world = fallen i s u; trace = t s (inl refl); beside = fell-down s f o }
     either es s s' f (inr o) t = record { world = fallen i s' u; trace = t s' (inr refl); beside = fell-down s' f o }
 

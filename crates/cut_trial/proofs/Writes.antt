@@ -1,10 +1,9 @@
 -- What the last of some writes to a sector gave.
-use Rattle.std.proofs.Common.{◌≡◌, ℕ, Bool, true, false, cond, List, [], ◌∷◌, ◌++◌, ◌==◌, replicate, Option, Some, None, Bor, sym, refl, ap, ◌∙◌}
+use Rattle.std.proofs.Common.{◌≡◌, ℕ, Bool, true, false, cond, List, [], ◌∷◌, ◌++◌, ◌==◌, Option, Some, None, Bor, sym, refl, ap, ◌∙◌}
 use mathlib.Core.List.{reverse}
 use Rattle.std.specs.List.{find}
 use Rattle.std.specs.Option.{option_copied}
 use Rattle.std.proofs.lemmas.Grind.{reverse_onto}
-use Rattle.disks.specs.Device.{zeros}
 use Rattle.journal.specs.declared.state.Write.{Write}
 use Rattle.cut_trial.specs.Models.{after_writes}
 
@@ -35,7 +34,3 @@ last_write (w ∷ ws) at b =
 
 pub latest_is : (ws : List Write) (at : ℕ) (b : List ℕ) (o p : Option (Bor Write)) → o ≡ p → option_copied o ≡ find (is_to at) (reverse ws) → held b (option_copied p) ≡ after_writes ws at b
 latest_is ws at b o p e f = ap (λ (x : Option (Bor Write)). held b (option_copied x)) (sym e) ∙ ap (held b) f ∙ last_write ws at b
-
-pub blank_zeros : replicate {A = ℕ} 512 0 ≡ zeros 512
-unfolding zeros
-blank_zeros = refl

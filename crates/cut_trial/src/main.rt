@@ -22,6 +22,7 @@ const USAGE: &str = "usage: cut_trial SEED CUTS";
 
 const WRONG: &str = "what was found is neither before nor after the transaction that was cut";
 
+// What is printed is this alone: an error behind it would be printed too.
 const REFUSED: &str = "the journal refused";
 
 #[derive(Clone, Copy, Default)]
@@ -101,24 +102,25 @@ impl Trial {
     }
 
     // What stands now: the cut transaction is done whole, or not at all.
-    fn compare(&mut self, journal: &Journal, cut: &[Write]) -> anyhow::Result<()> {
+    fn compare(&mut self, journal: &Journal, cut: Option<&[Write]>) -> anyhow::Result<()> {
         self.disk.fail_after(u64::MAX);
         if self.shows(journal, &[])? {
-            if !cut.is_empty() {
+            if cut.is_some() {
                 count(&mut self.counts.lost);
             }
             return Ok(());
         }
-        if !self.shows(journal, cut)? {
+        let writes = cut.context(WRONG)?;
+        if !self.shows(journal, writes)? {
             return Err(anyhow!("{WRONG}"));
         }
         count(&mut self.counts.kept);
-        self.model.put(cut);
+        self.model.put(writes);
         Ok(())
     }
 
-    // Some transactions, until the power fails; the one that was cut.
-    fn play(&mut self, heap: Global, journal: &mut Journal) -> anyhow::Result<Vec<Write>> {
+    // Some transactions, until the power fails; the one that was cut, if one was.
+    fn play(&mut self, heap: Global, journal: &mut Journal) -> anyhow::Result<Option<Vec<Write>>> {
         let n = self.random.below(400);
         self.disk.fail_after(n);
         for _ in 0..self.random.below(12) {
@@ -134,19 +136,18 @@ impl Trial {
                 Err(Failed::Refused(_)) => return Err(anyhow!("{REFUSED}")),
                 Err(Failed::Disk(_)) => {
                     count(&mut self.counts.cut_putting);
-                    return Ok(writes);
+                    return Ok(Some(writes));
                 }
             }
         }
         count(&mut self.counts.cut_between);
-        Ok(Vec::new(heap))
+        Ok(None)
     }
 }
 
 // The seed and how many cuts, by the command line.
 fn asked(rt: &HostRuntime) -> anyhow::Result<(u64, u64)> {
-    let mut words = env::args(rt)?;
-    let _program = words.next();
+    let mut words = env::args(rt)?.skip(1);
     two(&mut words).context(USAGE)
 }
 
@@ -159,10 +160,10 @@ fn run(rt: &HostRuntime) -> anyhow::Result<()> {
         random: Random::new(seed),
         counts: Counts::default(),
     };
-    let mut cut = Vec::new(heap);
+    let mut cut: Option<Vec<Write>> = None;
     for _ in 0..cuts {
         let mut journal = trial.opened()?;
-        trial.compare(&journal, cut.as_slice())?;
+        trial.compare(&journal, cut.as_deref())?;
         cut = trial.play(heap, &mut journal)?;
         trial.fail();
     }

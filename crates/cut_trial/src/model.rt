@@ -1,4 +1,4 @@
-// The plain array that the journal is compared with: a few sectors of the device, and the transaction that was cut, if one was.
+// The plain array that the journal is compared with: a few sectors of the device. And the transactions that are played, by chance.
 ghost use Rattle.std.specs.Prelude.{◌≡◌, ℕ, ◌<◌, ◌≤◌, ◌↔◌, IfOk, IsTrue, replicate, length, slice_index_or, vec_len};
 ghost use Rattle.disks.specs.Device.{zeros};
 ghost use Rattle.cut_trial.specs.Models.{placed, after_writes, Chosen};
@@ -49,13 +49,14 @@ impl Model {
         ensures count { vec_len self.new.sectors ≡ vec_len self.old.sectors }
         ensures each { (k : ℕ) → k < vec_len self.old.sectors → slice_index_or self.new.sectors.items k (zeros 512) ≡ after_writes writes.now (placed k) (slice_index_or self.old.sectors.items k (zeros 512)) }
     {
-        // By index: after iter_mut().enumerate() nothing is known of the elements.
+        // By index. Tried over iter_mut().enumerate(): the clause `each` was not proved, since nothing is known of the elements afterwards.
         for i in 0..self.sectors.len() {
             self.sectors[i] = latest(writes, Model::place(i), self.sectors[i]);
         }
     }
 
     // Whether the sector holds this, with these writes done or not.
+    #[tactic(auto, unfolding(disks::specs::Device::zeros))]
     pub fn holds(&self, i: usize, writes: &[Write], bytes: &[u8; SECTOR_BYTES]) -> bool
         ensures { IsTrue result ↔ (after_writes writes.now (placed i) (slice_index_or self.now.sectors.items i (zeros 512)) ≡ bytes.now) }
     {
@@ -68,8 +69,8 @@ impl Model {
 fn sector(random: &mut Random) -> [u8; SECTOR_BYTES] {
     let eight = random.next().to_be_bytes();
     let mut bytes = BLANK_SECTOR;
-    for (i, b) in bytes.iter_mut().enumerate() {
-        *b = eight[i / 64 % 8];
+    for (part, b) in bytes.chunks_exact_mut(64).zip(eight) {
+        part.fill(b);
     }
     bytes
 }

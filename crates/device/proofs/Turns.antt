@@ -1,11 +1,11 @@
 -- What is left of a program that goes through a list or a slot, at each turn of the code's loop.
 -- X-more: one turn, and what is left then; X-all: nothing is left.
-use Rattle.std.proofs.Common.{◌≡◌, ℕ, suc, Bool, true, false, cond, ltb, ◌&&◌, ◌+◌, ◌-◌, ◌*◌, ◌/◌, ◌%◌, ◌<◌, ◌≤◌, List, ◌++◌, length, get_or, take, drop, Ok, Result, sym, refl, subst, arith}
+use Rattle.std.proofs.Common.{◌≡◌, ℕ, suc, Bool, true, false, cond, ltb, ◌+◌, ◌-◌, ◌*◌, ◌/◌, ◌%◌, ◌<◌, ◌≤◌, List, ◌++◌, length, get_or, take, drop, Ok, Result, sym, refl, subst, arith}
 use Rattle.std.proofs.lemmas.List.{drop_more, drop_all}
 use Rattle.disks.specs.Device.{Io, answer, read, write, then'}
 use Rattle.journal.specs.Format.{slot_sectors, part_bytes, part_of, half_of}
 use Rattle.journal.specs.Programs.{no_write, write_all_io, record_sector, record_from, scan_from, replay_from, Opened, ready, redo_io, recover_io, in_order}
-use Rattle.journal.specs.Scans.{scan_next, number_or_none}
+use Rattle.journal.specs.Scans.{Scanned, scan_on, number_or_none}
 use Rattle.journal.specs.declared.scan.Scan.{Scan}
 use Rattle.journal.specs.declared.state.Write.{Write}
 use Rattle.journal.specs.declared.state.InOrder.{InOrder}
@@ -59,22 +59,22 @@ record_all at number ws i l = let n : 2 * (length ws - i) ≡ 0 = omega arith in
 pub ruleset writing = (write_more, write_all, record_more, record_all)
 
 -- a slot's sectors from the i-th on
-pub scan_more : {S E : Type 0} {did : S → Act → S → Type 0} (size at i : ℕ) (a : Scan) {r : Result Scan E} {s t : S} → i < slot_sectors →
-    Does did (read (at + i) (λ b. scan_from size at (i + 1) (slot_sectors - (i + 1)) (scan_next size i b a))) s r t → Does did (scan_from size at i (slot_sectors - i) a) s r t
+pub scan_more : {S E : Type 0} {did : S → Act → S → Type 0} (size at i : ℕ) (a : Scanned) {r : Result Scanned E} {s t : S} → i < slot_sectors →
+    Does did (read (at + i) (λ b. scan_from size at (i + 1) (slot_sectors - (i + 1)) (scan_on size i b a))) s r t → Does did (scan_from size at i (slot_sectors - i) a) s r t
 unfolding scan_from
 scan_more size at i a l h = let n : slot_sectors - i ≡ suc (slot_sectors - (i + 1)) = omega arith in rw n h
 
-pub scan_all : {S E : Type 0} {did : S → Act → S → Type 0} (size at i : ℕ) (a : Scan) {s : S} → slot_sectors ≤ i → Does {E = E} did (scan_from size at i (slot_sectors - i) a) s (Ok a) s
+pub scan_all : {S E : Type 0} {did : S → Act → S → Type 0} (size at i : ℕ) (a : Scanned) {s : S} → slot_sectors ≤ i → Does {E = E} did (scan_from size at i (slot_sectors - i) a) s (Ok a) s
 unfolding scan_from
 scan_all size at i a l = let n : slot_sectors - i ≡ 0 = omega arith in rw n ends
 
 -- the code's slot and first knowledge are the program's by equations
-pub scan_as : {S E : Type 0} {did : S → Act → S → Type 0} (size i k : ℕ) {at at' : ℕ} {a a' : Scan} {r : Result Scan E} {s t : S} → at ≡ at' → a ≡ a' →
+pub scan_as : {S E : Type 0} {did : S → Act → S → Type 0} (size i k : ℕ) {at at' : ℕ} {a a' : Scanned} {r : Result Scanned E} {s t : S} → at ≡ at' → a ≡ a' →
     Does did (scan_from size at i k a) s r t → Does did (scan_from size at' i k a') s r t
 scan_as {did} size i k {at} {a'} {r} {s} {t} e f h =
-    subst (λ (x : ℕ). Does did (scan_from size x i k a') s r t) e (subst (λ (x : Scan). Does did (scan_from size at i k x) s r t) f h)
+    subst (λ (x : ℕ). Does did (scan_from size x i k a') s r t) e (subst (λ (x : Scanned). Does did (scan_from size at i k x) s r t) f h)
 
-pub ruleset scanning = (scan_more, scan_all)
+pub ruleset scanning = (scan_more, scan_all, scan_as)
 
 -- a record's writes from the i-th on
 pub replay_more : {S E : Type 0} {did : S → Act → S → Type 0} (at i count : ℕ) {r : Result (Unit {0}) E} {s t : S} → i < count →
@@ -90,11 +90,11 @@ replay_all at i count l = let n : count - i ≡ 0 = omega arith in rw n ends
 pub ruleset replaying = (replay_more, replay_all)
 
 -- both records, in the order that the code found first
-pub redo_in_order : {S E : Type 0} {did : S → Act → S → Type 0} (size : ℕ) (a b : Scan) (o : InOrder) {r : Result Opened E} {s t : S} → a.ours && b.ours ≡ true → o ≡ in_order a b →
+pub redo_in_order : {S E : Type 0} {did : S → Act → S → Type 0} (size : ℕ) (a b : Scan) (o : InOrder) {r : Result Opened E} {s t : S} → o ≡ in_order a b →
     Does did (then' (redo_io o.older o.a o.b) (λ _. answer (Ok (ready size o.older o.a o.b)))) s r t →
-    Does did (recover_io size a b) s r t
+    Does did (recover_io size (Ok a) (Ok b)) s r t
 unfolding recover_io
-redo_in_order {E} {did} size a b o {r} {s} {t} ours e h = rw ours (go (ltb (number_or_none b) (number_or_none a)) (subst (λ (o : InOrder). Does {E = E} did (after o) s r t) e h))
+redo_in_order {E} {did} size a b o {r} {s} {t} e h = go (ltb (number_or_none b) (number_or_none a)) (subst (λ (o : InOrder). Does {E = E} did (after o) s r t) e h)
   where
     after : InOrder → Io Opened
     after o = then' (redo_io o.older o.a o.b) (λ _. answer (Ok (ready size o.older o.a o.b)))

@@ -12,15 +12,18 @@ use journal::{Place, SLOT_SECTORS};
 use octets::BLANK_SECTOR;
 
 // Reads a slot, first sector to last.
-fn scan<D: Disk>(disk: &mut D, size: u64, slot: Slot) -> Result<Scan, Fault>
+// The disk and its size stay two parameters, here and in `recover`: the disk is lent and the journal keeps the size, so that a struct of both
+// would be made in `open` alone, and taken apart again for the journal.
+#[tactic(auto, using(crate::proofs::Steps::does, crate::proofs::Turns::scanning))]
+fn scan<D: Disk>(disk: &mut D, size: u64, slot: Slot) -> Result<Result<Scan, Foreign>, Fault>
     ensures { Does D.did (scan_io size slot) disk.old result disk.new }
 {
     let at = slot.first_sector();
     let mut sector = BLANK_SECTOR;
-    let mut found = Scan::start();
+    let mut found = Ok(Scan::start());
     for i in 0..SLOT_SECTORS {
         disk.read(Place(at + i), &mut sector)?;
-        found = found.next(size, i, &sector);
+        found = found.and_then(|f| f.next(size, i, &sector));
     }
     Ok(found)
 }

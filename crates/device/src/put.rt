@@ -1,23 +1,40 @@
 // Putting a transaction: its record into a slot of the journal, a sync, then its sectors in place.
 ghost use Rattle.std.specs.Prelude.{◌≡◌, ◌+◌, ◌*◌, ◌^◌, ◌<◌, ◌≤◌, true, length, is_err};
-ghost use Rattle.device.specs.Does.{Act, Does};
+ghost use Rattle.device.specs.Does.{Act, Does, write_io};
+ghost use Rattle.journal.specs.Format.{part_bytes};
 ghost use Rattle.device.specs.Told.{told, leaving};
 ghost use Rattle.journal.specs.Programs.{write_all_io, record_of, transact_io, put_io};
 
 use crate::disk::{Disk, Failed, Fault};
-use journal::part::Part;
+use journal::part::{HALF_BYTES, Part};
 use journal::state::{Journal, Refused, Write, is_allowed};
 use journal::{NUMBERS_END, Place};
 use octets::BLANK_SECTOR;
 
+// Writes one part of the record that begins at this sector, with this half of its target's bytes.
+fn write_part<D: Disk>(
+    disk: &mut D,
+    at: u64,
+    part: Part,
+    half: &[u8; HALF_BYTES],
+) -> Result<(), Fault>
+    requires { at + part.index < 2 ^ 64 }
+    ensures { Does D.did (write_io (at + part.index) (part_bytes part half.now)) disk.old result disk.new }
+{
+    let mut sector = BLANK_SECTOR;
+    part.fill(half, &mut sector);
+    disk.write(Place(at + part.index), &sector)
+}
+
 // Writes a record of these writes into the slot that begins there, two sectors for each write.
+#[tactic(auto, using(crate::proofs::Steps::does, crate::proofs::Turns::writing))]
 fn write_record<D: Disk>(disk: &mut D, at: u64, number: u64, writes: &[Write]) -> Result<(), Fault>
     requires { at + 2 * length writes.now < 2 ^ 64 }
     ensures { Does D.did (write_all_io (record_of at number writes.now)) disk.old result disk.new }
 {
     // `u64` has no `From<usize>`.
     let length = 2 * writes.len() as u64;
-    let mut sector = BLANK_SECTOR;
+    // tried as `(0u64..).zip(writes)`: a loop over it knows no index, and `overflow_mul-part` stayed open.
     for (i, write) in writes.iter().enumerate() {
         let (first, second) = write.halves();
         let part = Part {
@@ -26,19 +43,18 @@ fn write_record<D: Disk>(disk: &mut D, at: u64, number: u64, writes: &[Write]) -
             length,
             target: write.target,
         };
-        part.fill(first, &mut sector);
-        disk.write(Place(at + part.index), &sector)?;
+        write_part(disk, at, part, first)?;
         let behind = Part {
             index: part.index + 1,
             ..part
         };
-        behind.fill(second, &mut sector);
-        disk.write(Place(at + behind.index), &sector)?;
+        write_part(disk, at, behind, second)?;
     }
     Ok(())
 }
 
 // Writes the sectors of a transaction to where they belong.
+#[tactic(auto, using(crate::proofs::Steps::does, crate::proofs::Turns::writing))]
 fn write_in_place<D: Disk>(disk: &mut D, writes: &[Write]) -> Result<(), Fault>
     ensures { Does D.did (write_all_io writes.now) disk.old result disk.new }
 {
@@ -59,9 +75,10 @@ fn transact<D: Disk>(journal: &Journal, disk: &mut D, writes: &[Write]) -> Resul
     write_in_place(disk, writes)
 }
 
-// The disk is lent and not kept with the journal in one struct, which would be no plainer: after a fault the disk is there still, and is
-// opened again.
 // Writes these sectors together: whenever the power fails, opening finds all of them written or none.
+// Here and in `get` the disk is lent, and no struct keeps it with the journal: its owner uses it between calls, and opens it again after a
+// fault. Nor do the disk and the writes make a struct, as each of the functions above asks the disk for something else, and `transact` would
+// take it apart for both.
 #[tactic(auto, using(crate::proofs::Steps::does, crate::proofs::Tells::tells), unfolding(journal::specs::Programs::put_io))]
 pub fn put<D: Disk>(
     journal: &mut Journal,

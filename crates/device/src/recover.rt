@@ -12,6 +12,7 @@ use journal::state::{InOrder, Journal};
 use octets::BLANK_SECTOR;
 
 // Does the first so many writes again of the record in the slot that begins there.
+#[tactic(auto, using(crate::proofs::Steps::does, crate::proofs::Turns::replaying))]
 fn replay<D: Disk>(disk: &mut D, at: u64, count: u64) -> Result<(), Fault>
     requires { at + 2 * count < 2 ^ 64 }
     ensures { Does D.did (replay_from at 0 count) disk.old result disk.new }
@@ -46,14 +47,14 @@ fn redo<D: Disk>(disk: &mut D, found: InOrder) -> Result<(), Fault>
 pub(crate) fn recover<D: Disk>(
     disk: &mut D,
     size: u64,
-    a: Scan,
-    b: Scan,
+    a: Result<Scan, Foreign>,
+    b: Result<Scan, Foreign>,
 ) -> Result<Journal, Failed<Foreign>>
     ensures { Does D.did (recover_io size a b) disk.old (told result) disk.new }
 {
-    if !(a.ours && b.ours) {
+    let (Ok(a), Ok(b)) = (a, b) else {
         return Err(Failed::Refused(Foreign));
-    }
+    };
     let found = InOrder::of(a, b);
     redo(disk, found)?;
     Ok(Journal::ready(size, found))

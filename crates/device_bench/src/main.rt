@@ -23,8 +23,7 @@ const FAILED: &str = "the device failed";
 
 // How many sectors and how often, by the command line.
 fn asked(rt: &HostRuntime) -> anyhow::Result<(u8, u64)> {
-    let mut words = env::args(rt)?;
-    let _program = words.next();
+    let mut words = env::args(rt)?.skip(1);
     let (sectors, times): (u8, u64) = two(&mut words).context(USAGE)?;
     if usize::from(sectors) > MOST_WRITES {
         return Err(anyhow!("{USAGE}"));
@@ -50,6 +49,7 @@ fn transactions(disk: &mut FileDisk<File>, writes: &[Write], times: u64) -> anyh
     Ok(())
 }
 
+// What is printed is this alone, whatever failed: a cause behind it would be printed too.
 fn failed<E: Drop>(_: E) -> anyhow::Error {
     anyhow!("{FAILED}")
 }
@@ -66,6 +66,7 @@ fn blank_writes(heap: Global, sectors: u8) -> Result<Vec<Write>, AllocError> {
 
 fn run(rt: &HostRuntime) -> anyhow::Result<()> {
     let (sectors, times) = asked(rt)?;
+    // As `house` opens it: a crate below both for this chain alone would be no plainer.
     let file = OpenOptions::new()
         .read(true)
         .write(true)

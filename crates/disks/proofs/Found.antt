@@ -1,11 +1,11 @@
 -- What is found under a number: if anything, then one of which Q holds. Each change of the list of volumes keeps that, or brings it about.
 use Rattle.std.specs.Prelude.{◌≡◌, Bool, true, false, cond, ◌||◌, not, ℕ, eqb, T}
-use Rattle.std.proofs.Common.{sym, ◌∙◌, subst, eqb→eq, arith}
+use Rattle.std.proofs.Common.{sym, subst, eqb→eq, arith}
 use mathlib.Core.List.{List, [], ◌∷◌, ◌++◌}
 use Rattle.disks.specs.Device.{Device, AfterCut}
 use Rattle.disks.specs.Disks.{Volume, State, keep, find, change, Out, no, is_volume, holding, cut_to, CutVolumes, no_more, left, is_cut}
 use Rattle.disks.proofs.Steps.{on_cond}
-use Rattle.std.proofs.Math.Facts.{T_not, T_not-not}
+use Rattle.std.proofs.Math.Facts.{T_not}
 
 abbrev pub Head : {A : Type 0} → (A → Type 0) → List A → Type 0
 Head Q [] = Unit {0}

@@ -7,7 +7,7 @@ use mathlib.Core.List.Memᴰ
 use mathlib.Core.List.{List, [], ◌∷◌, ◌++◌, Memᴰ}
 use Rattle.disks.specs.Disks.{Picture, State, keep}
 use Rattle.disks.specs.Promise.{PicturesStand}
-use Rattle.disks.proofs.Steps.{Step, nothing, made, changed, dropped, taken, thrown, shortened, along, on_cond}
+use Rattle.disks.proofs.Steps.{nothing, made, changed, dropped, taken, thrown, Move, called, shortened, along, on_cond}
 
 mem_append : {A : Type 0} {x : A} (xs : List A) {y : A} → Memᴰ x (xs ++ (y ∷ [])) → Memᴰ x xs ⊎ (x ≡ y)
 mem_append xs m = ⊎_map (λ k. k) (λ k. Memᴰ.eq_of_singleton k) (Memᴰ.append_cases xs m)
@@ -37,13 +37,13 @@ own-taken n ps x e o = record { low = λ p m. low p (mem_append ps m); own = λ 
     own p q (inr h) (inl k) g = absurd (omega (arith, o.low q k, ap (λ (y : Picture). y.num) h))
     own p q (inr h) (inr k) g = h ∙ sym k
 
-own_step : {s u : State} → Own s.next s.pictures → Step s u → Own u.next u.pictures
-own_step o nothing = o
-own_step o (made x e) = record { low = λ p m. omega (arith, o.low p m); own = o.own }
-own_step o (changed w f e h) = o
-own_step o (dropped w) = o
-own_step {s} o (taken p e) = own-taken s.next s.pictures p e o
-own_step {s} o (thrown f) = record { low = λ p m. o.low p (mem_keep f s.pictures m); own = λ p q m n e. o.own p q (mem_keep f s.pictures m) (mem_keep f s.pictures n) e }
+own_step : {s u : State} → Own s.next s.pictures → Move s u → Own u.next u.pictures
+own_step o (called nothing) = o
+own_step o (called (made x e)) = record { low = λ p m. omega (arith, o.low p m); own = o.own }
+own_step o (called (changed w f e h)) = o
+own_step o (called (dropped w)) = o
+own_step {s} o (called (taken p e)) = own-taken s.next s.pictures p e o
+own_step {s} o (called (thrown f)) = record { low = λ p m. o.low p (mem_keep f s.pictures m); own = λ p q m n e. o.own p q (mem_keep f s.pictures m) (mem_keep f s.pictures n) e }
 own_step o (shortened ws x) = o
 
 none-own : (n : ℕ) → Own n []
@@ -54,17 +54,17 @@ record Since (n : ℕ) (ps : List Picture) (m : ℕ) (qs : List Picture) : Type 
   on : n ≤ m
   new : (q : Picture) → Memᴰ q qs → Memᴰ q ps ⊎ (n ≤ q.num)
 
-since_step : (n : ℕ) (ps : List Picture) {s u : State} → Since n ps s.next s.pictures → Step s u → Since n ps u.next u.pictures
-since_step n ps o nothing = o
-since_step n ps o (made x e) = record { on = omega (arith, o.on); new = o.new }
-since_step n ps o (changed w f e h) = o
-since_step n ps o (dropped w) = o
-since_step n ps {s} o (taken p e) = record { on = omega (arith, o.on); new = λ q m. go q (mem_append s.pictures m) }
+since_step : (n : ℕ) (ps : List Picture) {s u : State} → Since n ps s.next s.pictures → Move s u → Since n ps u.next u.pictures
+since_step n ps o (called nothing) = o
+since_step n ps o (called (made x e)) = record { on = omega (arith, o.on); new = o.new }
+since_step n ps o (called (changed w f e h)) = o
+since_step n ps o (called (dropped w)) = o
+since_step n ps {s} o (called (taken p e)) = record { on = omega (arith, o.on); new = λ q m. go q (mem_append s.pictures m) }
   where
     go : (q : Picture) → Memᴰ q s.pictures ⊎ (q ≡ p) → Memᴰ q ps ⊎ (n ≤ q.num)
     go q (inl m) = o.new q m
     go q (inr h) = inr (omega (arith, o.on, ap (λ (y : Picture). y.num) h))
-since_step n ps {s} o (thrown f) = record { on = o.on; new = λ q m. o.new q (mem_keep f s.pictures m) }
+since_step n ps {s} o (called (thrown f)) = record { on = o.on; new = λ q m. o.new q (mem_keep f s.pictures m) }
 since_step n ps o (shortened ws x) = o
 
 pub pictures-stand : PicturesStand

@@ -1,4 +1,4 @@
--- What a call or a cut leaves, whichever it is: one of seven outcomes. Each promise over runs then goes by these.
+-- What a call leaves, whichever it is: one of six outcomes. Each promise over runs then goes by these, and by what a cut leaves.
 use Rattle.std.specs.Prelude.{◌≡◌, refl, Bool, true, false, cond, ◌&&◌, ◌||◌, not, ℕ, ◌+◌, ◌≤◌, eqb, ltb, leb, T, length}
 use Rattle.std.proofs.Common.{arith, le_refl}
 use mathlib.Core.List.{List, [], ◌∷◌, ◌++◌}
@@ -23,7 +23,6 @@ pub data Step (s : State) : State → Type 0 where
   dropped : (w : ℕ) → Step s (with_volumes (keep (λ (y : Volume). not (is_volume w y)) s.volumes) s)
   taken : (p : Picture) → p.num ≡ s.next → Step s (record { next = s.next + 1; volumes = s.volumes; pictures = s.pictures ++ (p ∷ []) })
   thrown : (f : Picture → Bool) → Step s (record { next = s.next; volumes = s.volumes; pictures = keep f s.pictures })
-  shortened : (ws : List Volume) → CutVolumes s.volumes ws → Step s (with_volumes ws s)
 
 abbrev To : State → Out → Type 0
 To s o = Step s o.state
@@ -58,8 +57,12 @@ step (Copy p) s = copies_step (find (is_picture p) s.pictures) s
 step (Drop v t) s = on_holding (To s) t (find (is_volume v) s.volumes) _ s nothing nothing (λ x. dropped v)
 step (DropPicture p) s = throws_step (find (is_picture p) s.pictures) s
 
--- what each step keeps holds along a run
-pub along : (P : State → Type 0) → ((s u : State) → P s → Step s u → P u) → {s t : State} → Run s t → P s → P t
+pub data Move (s : State) : State → Type 0 where
+  called : {u : State} → Step s u → Move s u
+  shortened : (ws : List Volume) → CutVolumes s.volumes ws → Move s (with_volumes ws s)
+
+-- what each call and each cut keeps holds along a run
+pub along : (P : State → Type 0) → ((s u : State) → P s → Move s u → P u) → {s t : State} → Run s t → P s → P t
 along P goes still h = h
-along P goes (onward {t = t} c r) h = goes t _ (along P goes r h) (step c t)
+along P goes (onward {t = t} c r) h = goes t _ (along P goes r h) (called (step c t))
 along P goes (was_cut r (cut s ws x)) h = goes s _ (along P goes r h) (shortened ws x)

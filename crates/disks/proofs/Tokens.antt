@@ -1,21 +1,21 @@
 -- Old tokens do nothing. A volume's number is never given again, and its token only grows; so once a token was given, what is found under
 -- the number has at least that token, and a call under an older one is refused.
-use Rattle.std.specs.Prelude.{◌≡◌, refl, ◌⊎◌, Bool, true, false, ◌&&◌, ◌||◌, not, ℕ, ◌+◌, ◌<◌, ◌≤◌, eqb, leb, T, length}
-use Rattle.std.proofs.Common.{ap, inl, inr, arith, eqb→eq}
+use Rattle.std.specs.Prelude.{◌≡◌, refl, ◌⊎◌, ◌&&◌, ◌||◌, not, ℕ, ◌+◌, ◌<◌, ◌≤◌, eqb, leb, length}
+use Rattle.std.proofs.Common.{ap, inl, inr, arith}
 use mathlib.Core.List.{List, [], ◌∷◌}
 use Rattle.disks.specs.Device.{all_bytes}
 use Rattle.disks.specs.Disks.{Volume, State, blank, find, Attach, Token, Out, no, attaches, holding, does}
 use Rattle.disks.specs.Promise.{Run, OldTokensNothing, Refused, OldTokensRefused}
-use Rattle.disks.proofs.Steps.{Step, nothing, made, changed, dropped, taken, thrown, shortened, along, on_cond}
+use Rattle.disks.proofs.Steps.{nothing, made, changed, dropped, taken, thrown, Move, called, shortened, along, on_cond}
 use Rattle.disks.proofs.Found.{Head, at, weaken, head_num, head_change, head_changed, head_append, head_keep, head_cut}
 
-low_step : {s u : State} → ((v : ℕ) → Head (λ (x : Volume). v < s.next) (at v s)) → Step s u → (v : ℕ) → Head (λ (x : Volume). v < u.next) (at v u)
-low_step h nothing v = h v
-low_step {s} h (made x e) v = head_append (λ (x : Volume). v < s.next + 1) v x (λ q. omega arith) s.volumes (weaken _ _ (at v s) (λ x l. omega arith) (h v))
-low_step {s} h (changed w f nums toks) v = head_change (λ (x : Volume). v < s.next) v w f nums (λ x l. l) s.volumes (h v)
-low_step {s} h (dropped w) v = head_keep (λ (x : Volume). v < s.next) v w s.volumes (h v)
-low_step {s} h (taken p e) v = weaken _ _ (at v s) (λ x l. omega arith) (h v)
-low_step h (thrown f) v = h v
+low_step : {s u : State} → ((v : ℕ) → Head (λ (x : Volume). v < s.next) (at v s)) → Move s u → (v : ℕ) → Head (λ (x : Volume). v < u.next) (at v u)
+low_step h (called nothing) v = h v
+low_step {s} h (called (made x e)) v = head_append (λ (x : Volume). v < s.next + 1) v x (λ q. omega arith) s.volumes (weaken _ _ (at v s) (λ x l. omega arith) (h v))
+low_step {s} h (called (changed w f nums toks)) v = head_change (λ (x : Volume). v < s.next) v w f nums (λ x l. l) s.volumes (h v)
+low_step {s} h (called (dropped w)) v = head_keep (λ (x : Volume). v < s.next) v w s.volumes (h v)
+low_step {s} h (called (taken p e)) v = weaken _ _ (at v s) (λ x l. omega arith) (h v)
+low_step h (called (thrown f)) v = h v
 low_step {s} h (shortened ws x) v = head_cut (λ (x : Volume). v < s.next) (λ (x : Volume). v < s.next) v (λ x l. l) (λ x d a l. l) x (h v)
 
 -- its number is never given again, and its token only grows
@@ -23,13 +23,13 @@ record Past (v k : ℕ) (s : State) : Type 0 where
   below : v < s.next
   token : Head (λ (x : Volume). k ≤ x.token) (at v s)
 
-past_step : (v k : ℕ) {s u : State} → Past v k s → Step s u → Past v k u
-past_step v k h nothing = h
-past_step v k {s} h (made x e) = record { below = omega (arith, h.below); token = head_append (λ (x : Volume). k ≤ x.token) v x (λ q. absurd (omega (arith, h.below))) s.volumes h.token }
-past_step v k {s} h (changed w f nums toks) = record { below = h.below; token = head_change (λ (x : Volume). k ≤ x.token) v w f nums (λ x l. omega (arith, toks x)) s.volumes h.token }
-past_step v k {s} h (dropped w) = record { below = h.below; token = head_keep (λ (x : Volume). k ≤ x.token) v w s.volumes h.token }
-past_step v k h (taken p e) = record { below = omega (arith, h.below); token = h.token }
-past_step v k h (thrown f) = record { below = h.below; token = h.token }
+past_step : (v k : ℕ) {s u : State} → Past v k s → Move s u → Past v k u
+past_step v k h (called nothing) = h
+past_step v k {s} h (called (made x e)) = record { below = omega (arith, h.below); token = head_append (λ (x : Volume). k ≤ x.token) v x (λ q. absurd (omega (arith, h.below))) s.volumes h.token }
+past_step v k {s} h (called (changed w f nums toks)) = record { below = h.below; token = head_change (λ (x : Volume). k ≤ x.token) v w f nums (λ x l. omega (arith, toks x)) s.volumes h.token }
+past_step v k {s} h (called (dropped w)) = record { below = h.below; token = head_keep (λ (x : Volume). k ≤ x.token) v w s.volumes h.token }
+past_step v k h (called (taken p e)) = record { below = omega (arith, h.below); token = h.token }
+past_step v k h (called (thrown f)) = record { below = h.below; token = h.token }
 past_step v k h (shortened ws x) = record { below = h.below; token = head_cut (λ (x : Volume). k ≤ x.token) (λ (x : Volume). k ≤ x.token) v (λ x l. l) (λ x d a l. omega arith) x h.token }
 
 -- what an attaching leaves

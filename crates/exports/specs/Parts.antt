@@ -33,32 +33,32 @@ frame_parts (whole n body after) = record { state = 0; customer = n; body = leng
 frame_parts short = record { state = 1; customer = 0; body = 0; after = 0 }
 frame_parts broken = record { state = 2; customer = 0; body = 0; after = 0 }
 
-abbrev pub call_from : Kind → (first second third : ℕ) → List ℕ → Call
-call_from kinds.Make a b c bs = Make a
-call_from kinds.Attach a b c bs = Attach a
-call_from kinds.Read a b c bs = Read a b c
-call_from kinds.Write a b c bs = Write a b c bs
-call_from kinds.Sync a b c bs = Sync a b
-call_from kinds.Picture a b c bs = Picture' a b
-call_from kinds.Copy a b c bs = Copy a
-call_from kinds.Drop a b c bs = Drop a b
-call_from kinds.DropPicture a b c bs = DropPicture a
+abbrev pub call_from : Kind → (numbers content : List ℕ) → Call
+call_from kinds.Make ns bs = Make (slice_index ns 0)
+call_from kinds.Attach ns bs = Attach (slice_index ns 0)
+call_from kinds.Read ns bs = Read (slice_index ns 0) (slice_index ns 1) (slice_index ns 2)
+call_from kinds.Write ns bs = Write (slice_index ns 0) (slice_index ns 1) (slice_index ns 2) bs
+call_from kinds.Sync ns bs = Sync (slice_index ns 0) (slice_index ns 1)
+call_from kinds.Picture ns bs = Picture' (slice_index ns 0) (slice_index ns 1)
+call_from kinds.Copy ns bs = Copy (slice_index ns 0)
+call_from kinds.Drop ns bs = Drop (slice_index ns 0) (slice_index ns 1)
+call_from kinds.DropPicture ns bs = DropPicture (slice_index ns 0)
 
 -- what was put is the bytes of the call of that kind's number
-pub record PutCall (number first second third : ℕ) (content put : List ℕ) : Type 0 where
+pub record PutCall (number : ℕ) (numbers content put : List ℕ) : Type 0 where
   pub kind : Kind
   pub named : kind_of number ≡ Some kind
-  pub bytes : put ≡ call_bytes (call_from kind first second third content)
+  pub bytes : put ≡ call_bytes (call_from kind numbers content)
 
-abbrev pub answer_from : ℕ → (first second : ℕ) → List ℕ → Option Reply
-answer_from n a b bs =
-    cond (n == 0) (option_map (λ (e : Refusal). No (refusal_number e)) (refusal_of a))
-    (cond (n == 1) (Some Yes) (cond (n == 2) (Some (Num a)) (cond (n == 3) (Some (Token a b)) (cond (n == 4) (cond (length bs == 512) (Some (Sector bs)) None) (cond (n == 5) (Some Full) None)))))
+abbrev pub answer_from : ℕ → (numbers content : List ℕ) → Option Reply
+answer_from n ns bs =
+    cond (n == 0) (option_map (λ (e : Refusal). No (refusal_number e)) (refusal_of (slice_index ns 0)))
+    (cond (n == 1) (Some Yes) (cond (n == 2) (Some (Num (slice_index ns 0))) (cond (n == 3) (Some (Token (slice_index ns 0) (slice_index ns 1))) (cond (n == 4) (cond (length bs == 512) (Some (Sector bs)) None) (cond (n == 5) (Some Full) None)))))
 
 -- what was put is the bytes of the answer of that case
-pub record PutAnswer (case first second : ℕ) (content put : List ℕ) : Type 0 where
+pub record PutAnswer (case : ℕ) (numbers content put : List ℕ) : Type 0 where
   pub reply : Reply
-  pub said : answer_from case first second content ≡ Some reply
+  pub said : answer_from case numbers content ≡ Some reply
   pub bytes : put ≡ answer_bytes reply
 
 -- what was put is the bytes of the call that was decoded

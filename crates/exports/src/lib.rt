@@ -1,19 +1,22 @@
 // `wire` for programs in other languages: functions on numbers and byte strings, by which tests compare it with a second decoder.
 #![tactic(auto)]
 
-ghost use Rattle.std.specs.Prelude.{◌≡◌, ◌<◌, take, IfSome, MatchOption};
+ghost use Rattle.std.specs.Prelude.{◌≡◌, ◌<◌, [], ◌∷◌, Some, take, slice_index, IfSome};
 ghost use Rattle.std.specs.Option.{option_map};
 ghost use Rattle.wire.specs.Answers.{answered_by, the_reply};
 ghost use Rattle.wire.specs.Calls.{decoded, is_call, the_call};
+ghost use Rattle.wire.specs.Cases.{case_number};
 ghost use Rattle.wire.specs.Frames.{framed, frame_bytes};
 ghost use Rattle.wire.specs.Kinds.{is_built, number_of};
 ghost use Rattle.exports.specs.Parts.{call_parts, answer_parts, frame_parts, call_from, PutCall, answer_from, PutAnswer, Again};
 
 use octets::SECTOR_BYTES;
 use octets::reader::sector;
+use octets::writer::hand_out;
 use std::alloc::Global;
 use wire::answer::Answer;
 use wire::call::Call;
+use wire::case::Case;
 use wire::frame::{Frame, NoFrame};
 use wire::kind::Kind;
 use wire::number::*;
@@ -21,7 +24,7 @@ use wire::refusal::Refusal;
 
 // What bytes decode to: a refusal's number, or 0, the kind and the numbers of a call. The C interface has no enum with values, so numbers say which it is, here and below.
 #[repr(C)]
-#[derive(Clone, Copy)]
+#[derive(Clone, Copy, Default)]
 pub struct CallParts {
     pub refusal: u64,
     pub kind: u64,
@@ -30,9 +33,10 @@ pub struct CallParts {
     pub third: u64,
 }
 
-fn parts(kind: Kind, first: u64, second: u64, third: u64) -> CallParts
-    ensures { result ≡ record { refusal = 0; kind = number_of kind; first = first; second = second; third = third } }
+fn parts(kind: Kind, numbers: [u64; 3]) -> CallParts
+    ensures { result ≡ record { refusal = 0; kind = number_of kind; first = slice_index numbers 0; second = slice_index numbers 1; third = slice_index numbers 2 } }
 {
+    let [first, second, third] = numbers;
     CallParts {
         refusal: 0,
         kind: u64::from(u8::from(kind)),
@@ -50,10 +54,7 @@ pub extern "C" fn wire_call(bytes: &[u8]) -> CallParts
         Ok(call) => of_call(&call),
         Err(refusal) => CallParts {
             refusal: u64::from(u8::from(refusal)),
-            kind: 0,
-            first: 0,
-            second: 0,
-            third: 0,
+            ..CallParts::default()
         },
     }
 }
@@ -63,41 +64,27 @@ fn of_call(call: &Call) -> CallParts
 {
     let kind = call.kind();
     match *call {
-        Call::Make(size) => parts(kind, size.0, 0, 0),
-        Call::Attach(volume) => parts(kind, volume.0, 0, 0),
+        Call::Make(size) => parts(kind, [size.0, 0, 0]),
+        Call::Attach(volume) => parts(kind, [volume.0, 0, 0]),
         Call::Read(hold, sector) | Call::Write(hold, sector, _) => parts(
             kind,
-            hold.volume.0,
-            hold.token.0,
-            sector.0,
+            [hold.volume.0, hold.token.0, sector.0],
         ),
         Call::Sync(hold) | Call::Picture(hold) | Call::Drop(hold) => parts(
             kind,
-            hold.volume.0,
-            hold.token.0,
-            0,
+            [hold.volume.0, hold.token.0, 0],
         ),
-        Call::Copy(picture) | Call::DropPicture(picture) => parts(kind, picture.0, 0, 0),
+        Call::Copy(picture) | Call::DropPicture(picture) => parts(kind, [picture.0, 0, 0]),
     }
 }
 
 // What bytes decode to as an answer: its case and its numbers, or case 6 where they are none.
 #[repr(C)]
-#[derive(Clone, Copy)]
+#[derive(Clone, Copy, Default)]
 pub struct AnswerParts {
     pub case: u64,
     pub first: u64,
     pub second: u64,
-}
-
-const fn said(case: u64, first: u64, second: u64) -> AnswerParts
-    ensures { result ≡ record { case = case; first = first; second = second } }
-{
-    AnswerParts {
-        case,
-        first,
-        second,
-    }
 }
 
 #[unsafe(no_mangle)]
@@ -105,19 +92,33 @@ pub extern "C" fn wire_answer(bytes: &[u8]) -> AnswerParts
     ensures { result ≡ answer_parts (answered_by bytes.now) }
 {
     match Answer::decode(bytes) {
-        Some(Answer::Refused(refusal)) => said(0, u64::from(u8::from(refusal)), 0),
-        Some(Answer::Yes) => said(1, 0, 0),
-        Some(Answer::Number(n)) => said(2, n, 0),
-        Some(Answer::Token(token, size)) => said(3, token.0, size.0),
-        Some(Answer::Sector(_)) => said(4, 0, 0),
-        Some(Answer::Full) => said(5, 0, 0),
-        None => said(6, 0, 0),
+        Some(answer) => of_answer(&answer),
+        None => AnswerParts {
+            case: 6,
+            ..AnswerParts::default()
+        },
+    }
+}
+
+fn of_answer(answer: &Answer) -> AnswerParts
+    ensures { result ≡ answer_parts (Some (the_reply answer.now)) }
+{
+    let (first, second) = match *answer {
+        Answer::Refused(refusal) => (u64::from(u8::from(refusal)), 0),
+        Answer::Number(n) => (n, 0),
+        Answer::Token(token, size) => (token.0, size.0),
+        Answer::Yes | Answer::Sector(_) | Answer::Full => (0, 0),
+    };
+    AnswerParts {
+        case: u64::from(u8::from(answer.case())),
+        first,
+        second,
     }
 }
 
 // What bytes begin with: state 0 for a frame, 1 for less than one, 2 for none.
 #[repr(C)]
-#[derive(Clone, Copy)]
+#[derive(Clone, Copy, Default)]
 pub struct FrameParts {
     pub state: u64,
     pub customer: u64,
@@ -125,14 +126,12 @@ pub struct FrameParts {
     pub after: u64,
 }
 
-const fn no_frame(state: u64) -> FrameParts
+fn no_frame(state: u64) -> FrameParts
     ensures { result ≡ record { state = state; customer = 0; body = 0; after = 0 } }
 {
     FrameParts {
         state,
-        customer: 0,
-        body: 0,
-        after: 0,
+        ..FrameParts::default()
     }
 }
 
@@ -153,35 +152,12 @@ pub extern "C" fn wire_frame(bytes: &[u8]) -> FrameParts
     }
 }
 
-// Copies what was encoded to the front of `out`, and says how many bytes; 0 for nothing, or where they do not fit. The C interface has no `Option`.
-fn hand_out(encoded: Option<Vec<u8>>, out: &mut [u8]) -> usize
-    ensures { MatchOption encoded (result ≡ 0) (λ v. 0 < result → take result out.new ≡ v.items) }
-{
-    let Some(bytes) = encoded else {
-        return 0;
-    };
-    let n = bytes.len();
-    if n > out.len() {
-        return 0;
-    }
-    out[0..n].copy_from_slice(&bytes);
-    n
-}
-
 // The call of a kind with these numbers and, where it is a write, this sector.
-fn call_from<'a>(
-    kind: Kind,
-    first: u64,
-    second: u64,
-    third: u64,
-    content: &'a [u8; SECTOR_BYTES],
-) -> Call<'a>
-    ensures { the_call result ≡ call_from kind first second third content.now }
+fn call_from<'a>(kind: Kind, numbers: [u64; 3], content: &'a [u8; SECTOR_BYTES]) -> Call<'a>
+    ensures { the_call result ≡ call_from kind numbers content.now }
 {
-    let hold = Hold {
-        volume: Volume(first),
-        token: Token(second),
-    };
+    let [first, second, third] = numbers;
+    let hold = Hold::new(first, second);
     match kind {
         Kind::Make => Call::Make(Size(first)),
         Kind::Attach => Call::Attach(Volume(first)),
@@ -196,21 +172,12 @@ fn call_from<'a>(
 }
 
 // That call's bytes, if there is such a kind and the content is a sector.
-fn encoded_call(
-    heap: Global,
-    kind: u8,
-    first: u64,
-    second: u64,
-    third: u64,
-    content: &[u8],
-) -> Option<Vec<u8>>
-    ensures { IfSome result (λ v. PutCall kind first second third content.now v.items) }
+fn encoded_call(heap: Global, kind: u8, numbers: [u64; 3], content: &[u8]) -> Option<Vec<u8>>
+    ensures { IfSome result (λ v. PutCall kind numbers content.now v.items) }
 {
     let kind = Kind::try_from(kind).ok()?;
     let content = sector(content)?;
-    call_from(kind, first, second, third, content)
-        .encode(heap)
-        .ok()
+    call_from(kind, numbers, content).encode(heap).ok()
 }
 
 // Puts a call's bytes at the front of `out`, and says how many; 0 for no such kind, content that is no sector, or no room. The C interface passes a call's parts one by one.
@@ -224,41 +191,40 @@ pub extern "C" fn wire_put_call(
     content: &[u8],
     out: &mut [u8],
 ) -> usize
-    ensures { 0 < result → PutCall kind first second third content.now (take result out.new) }
+    ensures { 0 < result → PutCall kind (first ∷ second ∷ third ∷ []) content.now (take result out.new) }
 {
-    hand_out(encoded_call(heap, kind, first, second, third, content), out)
+    hand_out(
+        encoded_call(heap, kind, [first, second, third], content),
+        out,
+    )
 }
 
 // The answer of a case with these numbers and, where it is one, this sector.
-fn answer_from<'a>(case: u8, first: u64, second: u64, content: &'a [u8]) -> Option<Answer<'a>>
-    ensures { option_map the_reply result ≡ answer_from case first second content.now }
+fn answer_from<'a>(case: Case, numbers: [u64; 2], content: &'a [u8]) -> Option<Answer<'a>>
+    ensures { option_map the_reply result ≡ answer_from (case_number case) numbers content.now }
 {
+    let [first, second] = numbers;
     match case {
-        0 => {
+        Case::Refused => {
             let number = u8::try_from(first).ok()?;
             let refusal = Refusal::try_from(number).ok()?;
             Some(Answer::Refused(refusal))
         }
-        1 => Some(Answer::Yes),
-        2 => Some(Answer::Number(first)),
-        3 => Some(Answer::Token(Token(first), Size(second))),
-        4 => Some(Answer::Sector(sector(content)?)),
-        5 => Some(Answer::Full),
-        _ => None,
+        Case::Yes => Some(Answer::Yes),
+        Case::Number => Some(Answer::Number(first)),
+        Case::Token => Some(Answer::Token(Token(first), Size(second))),
+        Case::Sector => Some(Answer::Sector(sector(content)?)),
+        Case::Full => Some(Answer::Full),
     }
 }
 
 // That answer's bytes, if there is such an answer.
-fn encoded_answer(
-    heap: Global,
-    case: u8,
-    first: u64,
-    second: u64,
-    content: &[u8],
-) -> Option<Vec<u8>>
-    ensures { IfSome result (λ v. PutAnswer case first second content.now v.items) }
+#[tactic(auto, using(wire::proofs::AnswerBytes::case_back))]
+fn encoded_answer(heap: Global, case: u8, numbers: [u64; 2], content: &[u8]) -> Option<Vec<u8>>
+    ensures { IfSome result (λ v. PutAnswer case numbers content.now v.items) }
 {
-    answer_from(case, first, second, content)?.encode(heap).ok()
+    let case = Case::try_from(case).ok()?;
+    answer_from(case, numbers, content)?.encode(heap).ok()
 }
 
 // Puts an answer's bytes at the front of `out`, and says how many; 0 for no such answer or no room.
@@ -271,9 +237,9 @@ pub extern "C" fn wire_put_answer(
     content: &[u8],
     out: &mut [u8],
 ) -> usize
-    ensures { 0 < result → PutAnswer case first second content.now (take result out.new) }
+    ensures { 0 < result → PutAnswer case (first ∷ second ∷ []) content.now (take result out.new) }
 {
-    hand_out(encoded_answer(heap, case, first, second, content), out)
+    hand_out(encoded_answer(heap, case, [first, second], content), out)
 }
 
 // Puts a frame's bytes at the front of `out`, and says how many; 0 for no room.

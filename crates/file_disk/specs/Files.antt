@@ -1,6 +1,6 @@
 -- A file as a device.
 -- Assumes nothing.
-use Rattle.std.specs.Prelude.{◌≡◌, ℕ, ◌*◌, List}
+use Rattle.std.specs.Prelude.{◌≡◌, ℕ, ◌*◌, List, MatchResult, Result}
 use Rattle.disks.specs.Device.{Device, shown, written, synced}
 
 -- one thing that a file was seen to do: places count bytes
@@ -9,6 +9,10 @@ pub data FileAct : Type 0 where
   wrote_at : ℕ → List ℕ → FileAct
   flushed : FileAct
   failed : FileAct
+
+-- from f to g this was asked of a file: it was done, or the file failed
+abbrev pub Tried : {F D E : Type 0} → (F → FileAct → F → Type 0) → F → FileAct → Result D E → F → Type 0
+Tried made f a r g = MatchResult r (λ _. made f a g) (λ _. made f failed g)
 
 -- A reading of a file's states as devices under which the file does what a device does.
 pub record FileModels {F : Type 0} (made : F → FileAct → F → Type 0) (holds : F → Device → Type 0) : Type 0 where

@@ -43,10 +43,10 @@ impl<F: Places> FileDisk<F> {
     }
 
     // What came of a request to the file; if it failed, the disk answers no more.
-    // A match: with map_err and a closure that gives up, nothing is known of the disk where the closure isn't called.
     fn answer(&mut self, done: io::Result<()>) -> Result<(), Fault>
         ensures { Ended done self.old result self.new }
     {
+        // Tried with `map_err`: the proof doesn't close where the file answered, since nothing says that a closure that isn't called leaves the disk as it was.
         match done {
             Ok(()) => Ok(()),
             Err(_) => Err(self.give_up()),
@@ -61,6 +61,7 @@ impl<F: Places> Disk for FileDisk<F> {
 
     ghost models = { disk_models F.Places.made F.Places.holds F.Places.models };
 
+    #[tactic(auto, using(device::proofs::Steps::disks, device::proofs::Steps::failed, device::proofs::Steps::giving_err))]
     fn read(&mut self, at: Place, buf: &mut [u8; SECTOR_BYTES]) -> Result<(), Fault>
         ensures does { Does (disk_did F.Places.made) (read_io at.0) self.old (giving result buf.new) self.new }
         ensures refused { OnErr result (Outside at.0 ⊎ Failed F.Places.made self.old self.new) }
@@ -70,6 +71,7 @@ impl<F: Places> Disk for FileDisk<F> {
         self.answer(done)
     }
 
+    #[tactic(auto, using(device::proofs::Steps::disks, device::proofs::Steps::failed))]
     fn write(&mut self, at: Place, bytes: &[u8; SECTOR_BYTES]) -> Result<(), Fault>
         ensures does { Does (disk_did F.Places.made) (write_io at.0 bytes.now) self.old result self.new }
         ensures refused { OnErr result (Outside at.0 ⊎ (Failed F.Places.made self.old self.new ⊎ F.Places.made self.old.file (wrote_at (at.0 * 512) bytes.now) self.new.file)) }
@@ -79,6 +81,7 @@ impl<F: Places> Disk for FileDisk<F> {
         self.answer(done)
     }
 
+    #[tactic(auto, using(device::proofs::Steps::disks, device::proofs::Steps::failed, crate::proofs::Broken::flushes))]
     fn sync(&mut self) -> Result<(), Fault>
         ensures does { Does (disk_did F.Places.made) sync_io self.old result self.new }
         ensures refused { OnErr result (Failed F.Places.made self.old self.new) }

@@ -1,7 +1,7 @@
 // A file that is read and written at a place, a sector's bytes at a time. What it did is told by ghost members.
 ghost use Rattle.std.specs.Prelude.{◌⊎◌, MatchResult};
 ghost use Rattle.disks.specs.Device.{Device};
-ghost use Rattle.file_disk.specs.Files.{FileAct, failed, read_at, wrote_at, flushed, FileModels, Unknown, unknown_models};
+ghost use Rattle.file_disk.specs.Files.{FileAct, failed, read_at, wrote_at, flushed, Tried, FileModels, Unknown, unknown_models};
 
 use octets::SECTOR_BYTES;
 use std::fs::File;
@@ -19,7 +19,7 @@ pub trait Places {
 
     // Past the end of the file it is an error.
     fn read_at(&mut self, place: u64, buf: &mut [u8; SECTOR_BYTES]) -> io::Result<()>
-        ensures { MatchResult result (λ _. made self.old (read_at place buf.new) self.new) (λ _. made self.old failed self.new) };
+        ensures { Tried made self.old (read_at place buf.new) result self.new };
 
     // At an error the bytes may have been written all the same.
     fn write_at(&mut self, place: u64, bytes: &[u8; SECTOR_BYTES]) -> io::Result<()>
@@ -27,7 +27,7 @@ pub trait Places {
 
     // What was written is safe, whatever happens to the power.
     fn flush_all(&mut self) -> io::Result<()>
-        ensures { MatchResult result (λ _. made self.old flushed self.new) (λ _. made self.old failed self.new) };
+        ensures { Tried made self.old flushed result self.new };
 }
 
 // The trusted part: that these three methods, each a call or two of std, do what their names say, and that a sector is written whole or not

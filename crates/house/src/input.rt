@@ -15,12 +15,10 @@ pub const MAX_LINE: usize = 1_048_576;
 fn strip_end(line: &mut Vec<u8>)
     ensures { line.new.items ≡ strip_last 10 line.old.items }
 {
-    if line.last() == Some(&b'\n') {
-        line.pop();
-    }
+    line.pop_if(|b| *b == b'\n');
 }
 
-// The next line without its end, none at the end of the input. A line that is too long, or for which there is no memory, is passed over to its end.
+// The next line without its end, or None at the end of the input. A line that is too long, or for which there is no memory, is passed over to its end.
 pub fn next_line<R: BufRead>(
     heap: Global,
     input: &mut R,

@@ -40,7 +40,7 @@ impl Place {
     fn new(me: u8, houses: u8) -> Option<Place>
         ensures { result ≡ place_of me houses }
     {
-        if houses < LEAST_HOUSES || houses > MOST_HOUSES || me >= houses {
+        if !(LEAST_HOUSES..=MOST_HOUSES).contains(&houses) || me >= houses {
             return None;
         }
         Some(Place {
@@ -56,8 +56,7 @@ fn usage() -> anyhow::Error {
 
 // Which house this is, by the command line.
 fn named(rt: &HostRuntime) -> anyhow::Result<Place> {
-    let mut words = env::args(rt)?;
-    let _program = words.next();
+    let mut words = env::args(rt)?.skip(1);
     let (me, houses) = two(&mut words).ok_or_else(usage)?;
     if words.next().is_some() {
         return Err(usage());
@@ -70,10 +69,7 @@ fn respond(customer: Customer, call: &[u8]) -> Response<'_>
     ensures same { result.customer ≡ customer }
     ensures refused { the_reply result.answer ≡ No (refusal_for (decoded is_built call.now)) }
 {
-    let refusal = match Call::decode(call) {
-        Ok(_) => Refusal::NotBuilt,
-        Err(refusal) => refusal,
-    };
+    let refusal = Call::decode(call).err().unwrap_or(Refusal::NotBuilt);
     Response {
         customer,
         answer: Answer::Refused(refusal),

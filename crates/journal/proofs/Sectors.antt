@@ -1,7 +1,7 @@
 -- Sectors of the journal as they are read: the numbers in them, and the half that each carries.
-use Rattle.std.proofs.Common.{◌≡◌, ℕ, Bool, true, false, cond, ◌≢◌, List, ◌++◌, length, drop, slice_index_or, refl, sym, ap, ◌∙◌, append-nil, arith, length-drop, Some, None, Ok, Err}
+use Rattle.std.proofs.Common.{◌≡◌, ℕ, Bool, true, false, cond, ◌≢◌, List, ◌++◌, length, drop, slice_index_or, refl, sym, ap, ◌∙◌, append-nil, arith, Some, None, Ok, Err}
 use borrow.Rule.Slice.PartMut.{mid_of, put_mid, post_of}
-use Rattle.std.proofs.lemmas.List.{take_all, drop-drop, drop_all}
+use Rattle.std.proofs.lemmas.List.{drop-drop, drop_all}
 use Rattle.std.proofs.lemmas.Bool.{eq-eqb, ne_eqb}
 use Rattle.octets.specs.Numbers.{field, fields}
 use Rattle.octets.proofs.Fields.{fields_take}

@@ -4,7 +4,7 @@ use Rattle.std.specs.Prelude.{ℕ, zero, suc, ◌+◌, ◌*◌, ◌/◌, ◌%◌
 use Rattle.std.specs.List.{list_any, list_all}
 use Rattle.disks.specs.Device.{Io, answer, read, write, sync, then'}
 use Rattle.journal.specs.Format.{slot_sectors, guarded, numbers_end, part_bytes, part_of, half_of, foreign}
-use Rattle.journal.specs.Scans.{scan_start, scan_next, number_or_none, redo_count, higher}
+use Rattle.journal.specs.Scans.{Scanned, scan_start, scan_on, number_or_none, redo_count, higher}
 use Rattle.journal.specs.declared.Place.{Place}
 use Rattle.journal.specs.declared.scan.Scan.{Scan}
 use Rattle.journal.specs.declared.state.Write.{Write}
@@ -106,12 +106,12 @@ unfoldable pub get_io : Journal → Place → Io Got
 get_io j p = cond (in_area j.size p.0) (read p.0 (λ b. answer (Ok b))) (answer (Err OutOfRange))
 
 -- OPEN: both slots are read; the complete records are done again, the older first; a sync
-unfoldable pub scan_from : (size at i k : ℕ) → Scan → Io Scan
+unfoldable pub scan_from : (size at i k : ℕ) → Scanned → Io Scanned
 scan_from size at i zero s = answer s
-scan_from size at i (suc k) s = read (at + i) (λ b. scan_from size at (i + 1) k (scan_next size i b s))
+scan_from size at i (suc k) s = read (at + i) (λ b. scan_from size at (i + 1) k (scan_on size i b s))
 
-abbrev pub scan_io : ℕ → Slot → Io Scan
-scan_io size slot = scan_from size (base slot) 0 slot_sectors scan_start
+abbrev pub scan_io : ℕ → Slot → Io Scanned
+scan_io size slot = scan_from size (base slot) 0 slot_sectors (Ok scan_start)
 
 unfoldable pub replay_from : (at i k : ℕ) → Io (Unit {0})
 replay_from at i zero = answer tt
@@ -131,11 +131,11 @@ redo_io older a b = then' (replay_from (base older) 0 (redo_count a)) (λ _. the
 abbrev pub in_order : Scan → Scan → InOrder
 in_order a b = cond (nat_lt (number_or_none b) (number_or_none a)) (record { older = Second; a = b; b = a }) (record { older = First; a = a; b = b })
 
-unfoldable pub recover_io : ℕ → Scan → Scan → Io Opened
-recover_io size a b =
-    cond (a.ours && b.ours)
-    (cond (nat_lt (number_or_none b) (number_or_none a)) (then' (redo_io Second b a) (λ _. answer (Ok (ready size Second b a)))) (then' (redo_io First a b) (λ _. answer (Ok (ready size First a b)))))
-    (answer (Err foreign))
+unfoldable pub recover_io : ℕ → Scanned → Scanned → Io Opened
+recover_io size (Err e) b = answer (Err foreign)
+recover_io size (Ok a) (Err e) = answer (Err foreign)
+recover_io size (Ok a) (Ok b) =
+    cond (nat_lt (number_or_none b) (number_or_none a)) (then' (redo_io Second b a) (λ _. answer (Ok (ready size Second b a)))) (then' (redo_io First a b) (λ _. answer (Ok (ready size First a b))))
 
 unfoldable pub open_io : ℕ → Io Opened
 open_io size = then' (scan_io size First) (λ a. then' (scan_io size Second) (λ b. recover_io size a b))

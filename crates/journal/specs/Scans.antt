@@ -1,14 +1,15 @@
 -- What is found in a slot of the journal.
 -- Assumes nothing.
-use Rattle.std.specs.Prelude.{ℕ, zero, suc, ◌+◌, ◌*◌, ◌/◌, Bool, true, false, cond, ◌&&◌, ◌||◌, List, [], ◌∷◌, ◌++◌, ◌==◌, nat_le, nat_lt, Some, None, Option, Ok, Err, unwrap_or}
+use Rattle.std.specs.Prelude.{ℕ, zero, suc, ◌+◌, ◌*◌, ◌/◌, Bool, cond, ◌&&◌, ◌||◌, List, [], ◌∷◌, ◌++◌, ◌==◌, nat_le, nat_lt, Some, None, Option, Ok, Err, Result, unwrap_or}
 use Rattle.journal.specs.Format.{slot_sectors, part_of, half_of, Found, found}
 use Rattle.journal.specs.declared.part.Part.{Part}
+use Rattle.journal.specs.declared.part.Foreign.{Foreign}
 use Rattle.journal.specs.declared.scan.Record.{Record}
 use Rattle.journal.specs.declared.scan.Scan.{Scan}
 use Rattle.journal.specs.declared.state.Write.{Write}
 
 abbrev pub scan_start : Scan
-scan_start = record { whole = None; highest = 0; ours = true }
+scan_start = record { whole = None; highest = 0 }
 
 abbrev pub higher : ℕ → ℕ → ℕ
 higher a b = cond (nat_lt a b) b a
@@ -21,21 +22,32 @@ still f (Some r) = cond (f r) (Some r) None
 -- the first sector says which record it is; the others, up to its length, must say the same
 unfoldable pub scan_part : ℕ → Part → Scan → Scan
 scan_part i p s =
-    cond (i == 0) (record { whole = Some (record { number = p.number; length = p.length }); highest = p.number; ours = s.ours })
-    (record { whole = still (λ r. nat_le r.length i || (p.number == r.number && p.length == r.length)) s.whole; highest = higher s.highest p.number; ours = s.ours })
+    cond (i == 0) (record { whole = Some (record { number = p.number; length = p.length }); highest = p.number })
+    (record { whole = still (λ r. nat_le r.length i || (p.number == r.number && p.length == r.length)) s.whole; highest = higher s.highest p.number })
 
-unfoldable pub scan_found : ℕ → Found → Scan → Scan
-scan_found i (Ok None) s = record { whole = still (λ r. nat_le r.length i) s.whole; highest = s.highest; ours = s.ours }
-scan_found i (Ok (Some p)) s = scan_part i p s
-scan_found i (Err e) s = record { whole = s.whole; highest = s.highest; ours = false }
+abbrev pub Scanned : Type 0
+Scanned = Result Scan Foreign
 
-abbrev pub scan_next : (size index : ℕ) → List ℕ → Scan → Scan
+unfoldable pub scan_blank : ℕ → Scan → Scan
+scan_blank i s = record { whole = still (λ r. nat_le r.length i) s.whole; highest = s.highest }
+
+unfoldable pub scan_found : ℕ → Found → Scan → Scanned
+scan_found i (Ok None) s = Ok (scan_blank i s)
+scan_found i (Ok (Some p)) s = Ok (scan_part i p s)
+scan_found i (Err e) s = Err e
+
+abbrev pub scan_next : (size index : ℕ) → List ℕ → Scan → Scanned
 scan_next size i b s = scan_found i (found size i b) s
 
+-- behind a foreign sector nothing is found
+abbrev pub scan_on : (size index : ℕ) → List ℕ → Scanned → Scanned
+scan_on size i b (Ok s) = scan_next size i b s
+scan_on size i b (Err e) = Err e
+
 -- the first k sectors of a slot that holds these
-unfoldable pub scanned : ℕ → (ℕ → List ℕ) → ℕ → Scan
-scanned size g zero = scan_start
-scanned size g (suc k) = scan_next size k (g k) (scanned size g k)
+unfoldable pub scanned : ℕ → (ℕ → List ℕ) → ℕ → Scanned
+scanned size g zero = Ok scan_start
+scanned size g (suc k) = scan_on size k (g k) (scanned size g k)
 
 -- the number of the record that is to be done again
 abbrev pub number_of : Option Record → Option ℕ

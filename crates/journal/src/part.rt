@@ -5,10 +5,10 @@ ghost use Rattle.journal.specs.Programs.{foreign_refusal};
 
 use crate::state::is_guarded;
 use crate::{MARK, NUMBERS_END, Place, SLOT_SECTORS};
-use octets::{SECTOR_BYTES, reader};
+use octets::{BLANK_SECTOR, SECTOR_BYTES, reader};
 
 // Half of a sector.
-pub const HALF_BYTES: usize = 256;
+pub const HALF_BYTES: usize = SECTOR_BYTES / 2;
 
 // Where a part has its half: behind five numbers.
 const HALF_START: usize = 40;
@@ -32,10 +32,8 @@ pub struct Foreign;
 impl From<Foreign> for u8 {
     ghost from_gives = { λ e n. n ≡ foreign_refusal e };
 
-    fn from(e: Foreign) -> u8 {
-        match e {
-            Foreign => 16,
-        }
+    fn from(_: Foreign) -> u8 {
+        16
     }
 }
 
@@ -44,7 +42,7 @@ impl Part {
     pub fn fill(&self, half: &[u8; HALF_BYTES], sector: &mut [u8; SECTOR_BYTES])
         ensures { sector.new ≡ part_bytes self.now half.now }
     {
-        *sector = [0; SECTOR_BYTES];
+        *sector = BLANK_SECTOR;
         sector[0..8].copy_from_slice(&MARK.to_be_bytes());
         sector[8..16].copy_from_slice(&self.number.to_be_bytes());
         sector[16..24].copy_from_slice(&self.index.to_be_bytes());
@@ -57,10 +55,7 @@ impl Part {
     pub fn read(sector: &[u8; SECTOR_BYTES]) -> Part
         ensures { result ≡ part_of sector.now }
     {
-        let Some(numbers) = reader::exactly::<4>(&sector[8..HALF_START]) else {
-            unreachable()
-        };
-        let [number, index, length, target] = numbers;
+        let [number, index, length, target] = reader::exactly::<4>(&sector[8..HALF_START]).unwrap();
         Part {
             number,
             index,
@@ -70,8 +65,8 @@ impl Part {
     }
 
     // The part that this sector holds, if it isn't blank, at this index of a slot, on a device of so many sectors.
-    // The two stay parameters, here and in `Scan::next`: a struct of them would be made anew for each sector.
-    // size and index stay two numbers: one is the device's for good, the other the sector's; a struct of both would be made anew for each sector.
+    // size and index stay two numbers, here, in `is_sound` and in `Scan::next`: the size is one for all the device, the index another for
+    // each sector, so that a struct of both would be made and taken apart at each sector, and no function would read it whole.
     #[tactic(auto, using(crate::proofs::Sectors::finding))]
     pub fn found(
         size: u64,
@@ -80,9 +75,7 @@ impl Part {
     ) -> Result<Option<Part>, Foreign>
         ensures { result ≡ found size index sector.now }
     {
-        let Some((mark, _)) = reader::number(sector) else {
-            unreachable()
-        };
+        let (mark, _) = reader::number(sector).unwrap();
         if mark == 0 {
             return Ok(None);
         }

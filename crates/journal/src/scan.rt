@@ -13,13 +13,11 @@ pub struct Record {
     pub length: u64,
 }
 
-// whole: the record that the slot begins with, while all its sectors so far are its own; highest: the highest number of any sector;
-// ours: no sector was foreign, a flag, since the scan goes on behind a foreign sector: a slot is always read to its end.
+// whole: the record that the slot begins with, while all its sectors so far are its own; highest: the highest number of any sector.
 #[derive(Clone, Copy)]
 pub struct Scan {
     pub whole: Option<Record>,
     pub highest: u64,
-    pub ours: bool,
 }
 
 impl Scan {
@@ -30,25 +28,20 @@ impl Scan {
         Scan {
             whole: None,
             highest: 0,
-            ours: true,
         }
     }
 
     // With one sector more, which stands at this index of the slot.
-    #[tactic(auto, unfolding(crate::specs::Scans::scan_found))]
-    pub fn next(self, size: u64, index: u64, sector: &[u8; SECTOR_BYTES]) -> Scan
+    #[tactic(auto, unfolding(crate::specs::Scans::scan_found, crate::specs::Scans::scan_blank))]
+    pub fn next(self, size: u64, index: u64, sector: &[u8; SECTOR_BYTES]) -> Result<Scan, Foreign>
         ensures { result ≡ scan_next size index sector.now self }
     {
-        match Part::found(size, index, sector) {
-            Ok(None) => Scan {
+        match Part::found(size, index, sector)? {
+            None => Ok(Scan {
                 whole: self.whole.filter(|r| r.length <= index),
                 ..self
-            },
-            Ok(Some(part)) => self.with_part(index, part),
-            Err(Foreign) => Scan {
-                ours: false,
-                ..self
-            },
+            }),
+            Some(part) => Ok(self.with_part(index, part)),
         }
     }
 
@@ -65,13 +58,11 @@ impl Scan {
             return Scan {
                 whole: Some(said),
                 highest: part.number,
-                ..self
             };
         }
         Scan {
             whole: self.whole.filter(|r| r.length <= index || *r == said),
             highest: self.highest.max(part.number),
-            ..self
         }
     }
 

@@ -38,24 +38,20 @@ pub struct Journal {
     pub slot: Slot,
 }
 
-// Why the journal refuses.
+// Why the journal refuses, with the number that stands for it in an answer.
 #[derive(Clone, Copy, Debug, PartialEq, Eq)]
 pub enum Refused {
     // no writes or too many, a sector outside the guarded area, or one twice
-    OutOfRange,
+    OutOfRange = 1,
     // the numbers of records are used up
-    NumbersUsedUp,
+    NumbersUsedUp = 8,
 }
 
-// The number that stands for it in an answer.
 impl From<Refused> for u8 {
     ghost from_gives = { λ e n. n ≡ refusal e };
 
     fn from(e: Refused) -> u8 {
-        match e {
-            Refused::OutOfRange => 1,
-            Refused::NumbersUsedUp => 8,
-        }
+        e as u8
     }
 }
 
@@ -65,12 +61,8 @@ impl Write {
         ensures first { result.0.now ≡ take 256 self.now.bytes }
         ensures second { result.1.now ≡ drop 256 self.now.bytes }
     {
-        let Some(first) = self.bytes.first_chunk::<HALF_BYTES>() else {
-            unreachable()
-        };
-        let Some(second) = self.bytes.last_chunk::<HALF_BYTES>() else {
-            unreachable()
-        };
+        let first = self.bytes.first_chunk::<HALF_BYTES>().unwrap();
+        let second = self.bytes.last_chunk::<HALF_BYTES>().unwrap();
         (first, second)
     }
 }
@@ -99,6 +91,8 @@ impl Slot {
 
 impl InOrder {
     // The lower number is the older record's; a slot without a record comes before one with a record.
+    // tried as `second.redo_number() < first.redo_number()`: `returns-then-lt` stayed open, since `in_order` takes the number 0, which no
+    // sound part has but a `Scan` can hold, for no record, and the order of `Option` doesn't.
     pub fn of(first: Scan, second: Scan) -> InOrder
         ensures { result ≡ in_order first second }
     {

@@ -6,10 +6,7 @@ ghost use Rattle.lines.specs.Decimals.{with_digit, decimal_of};
 fn with_digit(n: u64, digit: u8) -> Option<u64>
     ensures { result ≡ with_digit n digit }
 {
-    let units = match digit {
-        b'0'..=b'9' => digit - b'0',
-        _ => return None,
-    };
+    let units = char::from(digit).to_digit(10)?;
     n.checked_mul(10)?.checked_add(u64::from(units))
 }
 
@@ -20,6 +17,7 @@ pub fn decimal(digits: &[u8]) -> Option<u64>
     if digits.is_empty() {
         return None;
     }
+    // Tried as `try_fold`: `returns` stayed open, and a lemma of the fold would be longer than the loop's invariant.
     let mut n: u64 = 0;
     for digit in digits {
         n = with_digit(n, *digit)?;

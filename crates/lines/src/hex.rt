@@ -11,12 +11,7 @@ use std::fmt::Write;
 fn value(digit: u8) -> Option<u8>
     ensures { result ≡ digit_of digit }
 {
-    match digit {
-        b'0'..=b'9' => Some(digit - b'0'),
-        b'a'..=b'f' => Some(digit - b'a' + 10),
-        b'A'..=b'F' => Some(digit - b'A' + 10),
-        _ => None,
-    }
+    u8::try_from(char::from(digit).to_digit(16)?).ok()
 }
 
 // The byte that two digits spell.
@@ -69,10 +64,24 @@ impl fmt::Display for Hex<'_> {
     ghost output = { λ h. Some (hex_of h.0.now) };
 
     fn fmt<W: fmt::Write>(&self, f: &mut fmt::Formatter<W>) -> fmt::Result {
+        // Tried as `{b:02x}`: `loop-b-preserved` stayed open, since it asks what padding makes of each byte's digits.
         for b in self.0 {
             f.write_char(char::from(digit(*b / 16)))?;
             f.write_char(char::from(digit(*b % 16)))?;
         }
+        Ok(())
+    }
+}
+
+#[cfg(test)]
+mod tests {
+    use super::*;
+    use std::test::Fail;
+
+    #[test]
+    fn bytes_are_spelled_in_lower_case(rt: HostRuntime) -> Result<(), Fail> {
+        let out = encode(rt.alloc(), &[0, 255, 16])?;
+        assert_eq!(rt; out.as_slice(), b"00ff10".as_slice());
         Ok(())
     }
 }

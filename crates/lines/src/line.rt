@@ -20,7 +20,7 @@ pub enum Line {
     Tick,
 }
 
-// Why a line is not taken. An enum of its own, since callers and contracts name the cause.
+// Why a line is not taken. One enum: an error with a type parameter for its cause would want a type of its own for each cause, and as many `From`.
 #[derive(Clone, Copy, PartialEq, Eq)]
 pub enum LineError {
     Malformed,

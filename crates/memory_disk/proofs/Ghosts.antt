@@ -16,8 +16,8 @@ even-shows : (m : Table) (ws : List Write) → ws ≡ [] → ((n : ℕ) → show
 unfolding latest
 even-shows m ws e h n = h n ∙ ap (λ (xs : List Write). latest (kept_at m n) (since_in xs n)) (sym e)
 
-pub blank-shows : (m : Table) (ws : List Write) → ws ≡ [] → ((n : ℕ) → kept_at m n ≡ zeros 512) → ((n : ℕ) → shown_at m n ≡ zeros 512) → Shows m ws
-blank-shows m ws e k s = even-shows m ws e (λ n. s n ∙ sym (k n))
+pub blank_shows : (m : Table) (ws : List Write) → ws ≡ [] → ((n : ℕ) → kept_at m n ≡ zeros 512) → ((n : ℕ) → shown_at m n ≡ zeros 512) → Shows m ws
+blank_shows m ws e k s = even-shows m ws e (λ n. s n ∙ sym (k n))
 
 latest_one : (b : Bool) (x old : List ℕ) (xs : List (List ℕ)) (s : List ℕ) → s ≡ latest old xs → cond b x s ≡ latest old (cond b (x ∷ xs) xs)
 unfolding latest
@@ -41,13 +41,13 @@ settled_is m m' ws h e n = e.kept n ∙ go (since_in ws n) (h n)
     go [] q = refl
     go (x ∷ xs) q = q
 
-pub settled-shows : (m m' : Table) (ws ws' : List Write) → Shows m ws → Settled ws m m' → ws' ≡ [] → Shows m' ws'
-settled-shows m m' ws ws' h e q = even-shows m' ws' q (λ n. e.shown n ∙ h n ∙ sym (settled_is m m' ws h e n))
+pub settled_shows : (m m' : Table) (ws ws' : List Write) → Shows m ws → Settled ws m m' → ws' ≡ [] → Shows m' ws'
+settled_shows m m' ws ws' h e q = even-shows m' ws' q (λ n. e.shown n ∙ h n ∙ sym (settled_is m m' ws h e n))
 
 -- some is lost
-pub lost-shows : (m m' : Table) (ws ws' : List Write) → Shows m ws → Lost ws m m' → ws' ≡ [] → Shows m' ws'
+pub lost_shows : (m m' : Table) (ws ws' : List Write) → Shows m ws → Lost ws m m' → ws' ≡ [] → Shows m' ws'
 unfolding latest
-lost-shows m m' ws ws' h e q = even-shows m' ws' q (λ n. e.shown n ∙ go n (since_in ws n) (h n) (e.kept n))
+lost_shows m m' ws ws' h e q = even-shows m' ws' q (λ n. e.shown n ∙ go n (since_in ws n) (h n) (e.kept n))
   where
     go : (n : ℕ) (xs : List (List ℕ)) → shown_at m n ≡ latest (kept_at m n) xs → (kept_at m' n ≡ kept_at m n) ⊎ Memᴰ (kept_at m' n) xs → if_any xs (kept_at m' n) (shown_at m n) ≡ kept_at m' n
     go n [] s (inl k) = s ∙ sym k

@@ -1,4 +1,3 @@
-pub mod Puts
 pub mod Logs
 pub mod Ghosts
 pub mod Requests

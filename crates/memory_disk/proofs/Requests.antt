@@ -1,5 +1,6 @@
 -- What one request does to the disk, from what its parts did.
-use Rattle.std.proofs.Common.{◌≡◌, ℕ, ◌<◌, Bool, true, false, cond, ◌&&◌, eqb, ltb, ◌⊎◌, List, [], ◌∷◌, ◌++◌, vec_items, is_err, Ok, Err, Result, sym, refl, ap, ◌∙◌, subst, inl, inr, ltb-true, lt-ltb, eqb-true}
+use Rattle.std.proofs.Common.{◌≡◌, ℕ, ◌<◌, Bool, true, false, cond, eqb, ltb, ◌⊎◌, List, [], ◌∷◌, ◌++◌, vec_items, sym, refl, ap, ◌∙◌, subst, inl, inr, ltb-true, lt-ltb, eqb-true}
+use Rattle.std.proofs.lemmas.Bool.{and_parts}
 use mathlib.Core.List.{Memᴰ}
 use Rattle.journal.specs.declared.state.Write.{Write}
 use Rattle.disks.specs.Device.{Device, latest, written}
@@ -13,11 +14,6 @@ use Rattle.memory_disk.proofs.Ghosts.{settled_is}
 unmoved_same : (s t : MemoryDisk) → Unmoved s t → Same (device_of t) (device_of s)
 unmoved_same s t u n = (ap (λ x. kept_at x.written n) u.sectors, ap (λ x. since_in (vec_items x) n) u.log)
 
-both : (a b : Bool) → true ≡ (a && b) → (a ≡ true) × (b ≡ true)
-both true true e = (refl, refl)
-both true false e = (refl, sym e)
-both false b e = (sym e, absurd (subst (λ (x : Bool). cond x ⊥ (Unit {0})) (sym e) tt))
-
 pub broke_noting : (s m u t : MemoryDisk) (within r : Bool) → Counted s within r m → Noted m (vec_items m.log) u → Broke u t → Broke s t
 broke_noting s m u t within r k w b = record {
   left = b.left;
@@ -30,7 +26,7 @@ broke_noting s m u t within r k w b = record {
 
 pub it_gives : (s m : MemoryDisk) (n : ℕ) (b : List ℕ) → Counted s (ltb n s.size) true m → b ≡ shown_at m.sectors.written n → MemoryDid s (gave n b) m
 it_gives s m n b k e =
-    let q = both (ltb n s.size) (answers s.left) k.value in
+    let q = and_parts (ltb n s.size) (answers s.left) (sym k.value) in
     let d = unmoved_same s m k.rest in (
       ltb-true n s.size q.0,
       e ∙ m.shows n ∙ ap (λ (x : List ℕ). latest x ((device_of m).since n)) (d n).0 ∙ ap (latest ((device_of s).kept n)) (d n).1,
@@ -40,7 +36,7 @@ it_gives s m n b k e =
 pub it_takes : (s m t : MemoryDisk) (n : ℕ) (b : List ℕ) → Counted s (ltb n s.size) true m →
     Noted m (vec_items m.log ++ record { target = record { 0 = n }; bytes = b } ∷ []) t → MemoryDid s (took n b) t
 it_takes s m t n b k w =
-    let q = both (ltb n s.size) (answers s.left) k.value in
+    let q = and_parts (ltb n s.size) (answers s.left) (sym k.value) in
     let d = unmoved_same s m k.rest in (
       ltb-true n s.size q.0,
       record { was = q.1; left = w.left ∙ k.left; size = w.size ∙ k.rest.size; device = λ j. (w.kept j ∙ (d j).0, since j) },

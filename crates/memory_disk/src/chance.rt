@@ -1,6 +1,6 @@
 // What of the writes since the last sync stays at a cut, by a seed.
 ghost use Rattle.std.specs.Prelude.{◌≡◌, ◌%◌, nat_lt};
-ghost use Rattle.memory_disk.specs.Chances.{stepped, mixed};
+ghost use Rattle.memory_disk.specs.Chances.{stepped, mixed, drawn, Drew};
 
 use crate::random::Random;
 
@@ -26,8 +26,8 @@ impl Chance {
 
     // Whether the next write stays.
     pub fn stays(&mut self) -> bool
-        ensures value { result ≡ nat_lt (mixed (stepped self.old.random.state) % 8) self.old.odds }
-        ensures state { self.new.random.state ≡ stepped self.old.random.state }
+        ensures value { result ≡ nat_lt (drawn self.old.random % 8) self.old.odds }
+        ensures state { Drew self.old.random self.new.random }
         ensures odds { self.new.odds ≡ self.old.odds }
     {
         self.random.below(WHOLE) < self.odds

@@ -10,6 +10,7 @@ use std::alloc::Global;
 
 impl MemoryDisk {
     // A blank disk of so many sectors.
+    #[tactic(auto, using(crate::proofs::Ghosts::blank_shows))]
     pub fn new(heap: Global, size: u64) -> MemoryDisk
         ensures blank { MemoryHolds result blank_device }
         ensures size { result.size ≡ size }
@@ -39,6 +40,7 @@ impl MemoryDisk {
     }
 
     // The power fails: each sector for itself holds what was kept or anything written since, by the seed. The disk answers again.
+    #[tactic(auto, using(crate::proofs::Ghosts::lost_shows))]
     pub fn cut(&mut self, seed: u64)
         ensures cuts { Cuts self.old self.new }
         ensures left { self.new.left ≡ None }

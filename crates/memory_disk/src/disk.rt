@@ -33,7 +33,7 @@ impl MemoryDisk {
         ensures noted { MatchResult result (λ _. Noted self.old (self.old.log.items ++ record { target = at; bytes = bytes.now } ∷ []) self.new) (λ _. Noted self.old self.old.log.items self.new) }
     {
         self.log.reserve(1)?;
-        self.sectors.write(at.0, bytes)?;
+        self.sectors.write(at, bytes)?;
         self.log.push_reserved(Write {
             target: at,
             bytes: *bytes,
@@ -49,27 +49,30 @@ impl Disk for MemoryDisk {
 
     ghost models = { memory_models };
 
+    #[tactic(auto, using(device::proofs::Steps::disks, device::proofs::Steps::failed, device::proofs::Steps::giving_err, crate::proofs::Requests::it_gives))]
     fn read(&mut self, at: Place, buf: &mut [u8; SECTOR_BYTES]) -> Result<(), Fault>
         ensures does { Does MemoryDid (read_io at.0) self.old (giving result buf.new) self.new }
         ensures answered { is_ok result ≡ (nat_lt at.0 self.old.size && answers self.old.left) }
     {
         self.count(at.0 < self.size)?;
-        self.sectors.read(at.0, buf);
+        self.sectors.read(at, buf);
         Ok(())
     }
 
+    #[tactic(auto, using(device::proofs::Steps::disks, device::proofs::Steps::failed, crate::proofs::Requests::broke_noting))]
     fn write(&mut self, at: Place, bytes: &[u8; SECTOR_BYTES]) -> Result<(), Fault>
         ensures does { Does MemoryDid (write_io at.0 bytes.now) self.old result self.new }
         ensures refused { OnErr result (((nat_lt at.0 self.old.size && answers self.old.left) ≡ false) ⊎ MayGrow self.old at.0) }
     {
         self.count(at.0 < self.size)?;
-        // A match: with map_err and a closure that gives up, nothing is known of the disk where the closure isn't called.
+        // Tried with `map_err`: the proof of `does` doesn't close where the write was noted, since nothing says that a closure that isn't called leaves the disk as it was.
         match self.note(at, bytes) {
             Ok(()) => Ok(()),
             Err(_) => Err(self.give_up()),
         }
     }
 
+    #[tactic(auto, using(device::proofs::Steps::disks, device::proofs::Steps::failed))]
     fn sync(&mut self) -> Result<(), Fault>
         ensures does { Does MemoryDid sync_io self.old result self.new }
         ensures answered { is_ok result ≡ answers self.old.left }

@@ -1,6 +1,6 @@
 // Numbers by chance, from a seed: the generator splitmix64.
 ghost use Rattle.std.specs.Prelude.{◌≡◌, ◌%◌, if◌then◌else◌, nat_eq};
-ghost use Rattle.memory_disk.specs.Chances.{stepped, mixed};
+ghost use Rattle.memory_disk.specs.Chances.{mixed, drawn, Drew};
 
 const STEP: u64 = 0x9e37_79b9_7f4a_7c15;
 
@@ -25,8 +25,8 @@ impl Random {
     }
 
     pub fn next(&mut self) -> u64
-        ensures value { result ≡ mixed (stepped self.old.state) }
-        ensures state { self.new.state ≡ stepped self.old.state }
+        ensures value { result ≡ drawn self.old }
+        ensures state { Drew self.old self.new }
     {
         self.state = self.state.wrapping_add(STEP);
         mix(self.state)
@@ -34,8 +34,8 @@ impl Random {
 
     // A number below n; 0 where n is 0.
     pub fn below(&mut self, n: u64) -> u64
-        ensures value { result ≡ (if nat_eq n 0 then 0 else mixed (stepped self.old.state) % n) }
-        ensures state { self.new.state ≡ stepped self.old.state }
+        ensures value { result ≡ (if nat_eq n 0 then 0 else drawn self.old % n) }
+        ensures state { Drew self.old self.new }
     {
         self.next().checked_rem(n).unwrap_or(0)
     }

@@ -5,10 +5,12 @@ ghost use Rattle.disks.specs.Device.{zeros};
 ghost use Rattle.memory_disk.specs.Contents.{kept_at, shown_at, present, SameKept, SameShown, Wrote, Alike, Settled, Lost};
 
 use crate::chance::Chance;
+use journal::Place;
 use journal::state::Write;
 use octets::{BLANK_SECTOR, SECTOR_BYTES};
 use std::alloc::{AllocError, Global};
 use std::collections::BTreeMap;
+use std::collections::btree_map::Entry;
 
 // kept: what the sector held at the last sync; shown: what it reads as.
 #[derive(Drop)]
@@ -42,22 +44,24 @@ impl Sectors {
         self.written.len()
     }
 
-    pub fn read(&self, at: u64, buf: &mut [u8; SECTOR_BYTES])
-        ensures { buf.new ≡ shown_at self.now.written at }
+    #[tactic(auto, unfolding(disks::specs::Device::zeros))]
+    pub fn read(&self, at: Place, buf: &mut [u8; SECTOR_BYTES])
+        ensures { buf.new ≡ shown_at self.now.written at.0 }
     {
-        match self.written.get(&at) {
+        match self.written.get(&at.0) {
             Some(sector) => *buf = sector.shown,
             None => *buf = BLANK_SECTOR,
         }
     }
 
-    pub fn write(&mut self, at: u64, bytes: &[u8; SECTOR_BYTES]) -> Result<(), AllocError>
-        ensures wrote { MatchResult result (λ _. Wrote at bytes.now self.old.written self.new.written) (λ _. Alike self.old.written self.new.written) }
-        ensures refused { OnErr result (present self.old.written at ≡ false) }
+    #[tactic(auto, unfolding(disks::specs::Device::zeros))]
+    pub fn write(&mut self, at: Place, bytes: &[u8; SECTOR_BYTES]) -> Result<(), AllocError>
+        ensures wrote { MatchResult result (λ _. Wrote at.0 bytes.now self.old.written self.new.written) (λ _. Alike self.old.written self.new.written) }
+        ensures refused { OnErr result (present self.old.written at.0 ≡ false) }
     {
-        match self.written.get_mut(&at) {
-            Some(sector) => sector.shown = *bytes,
-            None => {
+        match self.written.entry(at.0)? {
+            Entry::Occupied(mut entry) => entry.get_mut().shown = *bytes,
+            Entry::Vacant(entry) => {
                 let sector = Box::new(
                     self.heap,
                     Sector {
@@ -65,7 +69,7 @@ impl Sectors {
                         shown: *bytes,
                     },
                 )?;
-                self.written.insert(at, sector)?;
+                entry.insert(sector);
             }
         }
         Ok(())
@@ -73,32 +77,32 @@ impl Sectors {
 
     // What the sector shows stays.
     // This and the next two are an assignment each, and prove alone. Tried as one function over a closure: its proof didn't close, at what it
-    // ensures where the sector is there, and each of the three would want an answer.
-    pub fn settle(&mut self, at: u64)
-        ensures kept { (n : ℕ) → kept_at self.new.written n ≡ (if nat_eq n at then shown_at self.old.written n else kept_at self.old.written n) }
+    // ensures where the sector is there.
+    pub fn settle(&mut self, at: Place)
+        ensures kept { (n : ℕ) → kept_at self.new.written n ≡ (if nat_eq n at.0 then shown_at self.old.written n else kept_at self.old.written n) }
         ensures shown { SameShown self.old.written self.new.written }
     {
-        if let Some(sector) = self.written.get_mut(&at) {
+        if let Some(sector) = self.written.get_mut(&at.0) {
             sector.kept = sector.shown;
         }
     }
 
     // The sector, if it is there, keeps these bytes.
-    fn keep(&mut self, at: u64, bytes: &[u8; SECTOR_BYTES])
-        ensures kept { (n : ℕ) → kept_at self.new.written n ≡ (if nat_eq n at && present self.old.written at then bytes.now else kept_at self.old.written n) }
+    fn keep(&mut self, at: Place, bytes: &[u8; SECTOR_BYTES])
+        ensures kept { (n : ℕ) → kept_at self.new.written n ≡ (if nat_eq n at.0 && present self.old.written at.0 then bytes.now else kept_at self.old.written n) }
         ensures shown { SameShown self.old.written self.new.written }
     {
-        if let Some(sector) = self.written.get_mut(&at) {
+        if let Some(sector) = self.written.get_mut(&at.0) {
             sector.kept = *bytes;
         }
     }
 
     // The sector shows what it keeps.
-    fn revert(&mut self, at: u64)
+    fn revert(&mut self, at: Place)
         ensures kept { SameKept self.old.written self.new.written }
-        ensures shown { (n : ℕ) → shown_at self.new.written n ≡ (if nat_eq n at then kept_at self.old.written n else shown_at self.old.written n) }
+        ensures shown { (n : ℕ) → shown_at self.new.written n ≡ (if nat_eq n at.0 then kept_at self.old.written n else shown_at self.old.written n) }
     {
-        if let Some(sector) = self.written.get_mut(&at) {
+        if let Some(sector) = self.written.get_mut(&at.0) {
             sector.shown = sector.kept;
         }
     }
@@ -108,7 +112,7 @@ impl Sectors {
         ensures { Settled log.now self.old.written self.new.written }
     {
         for w in log {
-            self.settle(w.target.0);
+            self.settle(w.target);
         }
     }
 
@@ -119,9 +123,9 @@ impl Sectors {
         let mut chance = Chance::new(seed);
         for w in log {
             if chance.stays() {
-                self.keep(w.target.0, &w.bytes);
+                self.keep(w.target, &w.bytes);
             }
-            self.revert(w.target.0);
+            self.revert(w.target);
         }
     }
 }

@@ -1,6 +1,6 @@
 -- Numbers as bytes, high byte first.
 -- Assumes nothing.
-use Rattle.std.specs.Prelude.{ℕ, zero, suc, ◌+◌, ◌*◌, ◌/◌, ◌%◌, ◌^◌, Bool, true, ◌&&◌, List, [], ◌∷◌, ◌++◌, take, drop, nat_lt}
+use Rattle.std.specs.Prelude.{◌≡◌, ℕ, zero, suc, ◌+◌, ◌*◌, ◌/◌, ◌%◌, ◌^◌, Bool, true, ◌&&◌, List, [], ◌∷◌, ◌++◌, length, take, drop, nat_lt}
 use Rattle.std.specs.List.{flat_map}
 
 -- the number that bytes stand for, behind those that were read before
@@ -34,3 +34,7 @@ numbers_bytes ns = flat_map (bytes_of 8) ns
 unfoldable pub small : List ℕ → Bool
 small [] = true
 small (n ∷ ns) = nat_lt n (2 ^ 64) && small ns
+
+-- what follows so many bytes
+abbrev pub Behind : ℕ → List ℕ → List ℕ → Type 0
+Behind k bs rest = (rest ≡ drop k bs) × (length rest + k ≡ length bs)

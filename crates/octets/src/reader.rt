@@ -1,12 +1,12 @@
 // Numbers and sectors off the front of a byte string.
-ghost use Rattle.std.specs.Prelude.{◌≡◌, ◌+◌, ◌*◌, ◌<◌, ◌≤◌, length, take, drop, MatchOption, ◌≢◌};
-ghost use Rattle.octets.specs.Numbers.{big, fields};
+ghost use Rattle.std.specs.Prelude.{◌≡◌, ◌*◌, ◌<◌, length, take, MatchOption, ◌≢◌};
+ghost use Rattle.octets.specs.Numbers.{big, fields, Behind};
 
 use crate::SECTOR_BYTES;
 
 // The number in the first 8 bytes, and what follows them.
 pub fn number(bytes: &[u8]) -> Option<(u64, &[u8])>
-    ensures { MatchOption result (length bytes.now < 8) (λ p. (p.0 ≡ big (take 8 bytes.now)) × (p.1.now ≡ drop 8 bytes.now) × (length p.1.now + 8 ≡ length bytes.now)) }
+    ensures { MatchOption result (length bytes.now < 8) (λ p. (p.0 ≡ big (take 8 bytes.now)) × Behind 8 bytes.now p.1.now) }
 {
     let (first, rest) = bytes.split_first_chunk::<8>()?;
     Some((u64::from_be_bytes(*first), rest))
@@ -14,7 +14,7 @@ pub fn number(bytes: &[u8]) -> Option<(u64, &[u8])>
 
 // Fills `out` with numbers from the front, and says what follows them.
 fn fill<'a>(out: &mut [u64], bytes: &'a [u8]) -> Option<&'a [u8]>
-    ensures { MatchOption result (length bytes.now < 8 * length out.old) (λ rest. (out.new ≡ fields (length out.old) bytes.now) × (rest.now ≡ drop (8 * length out.old) bytes.now) × (length rest.now + 8 * length out.old ≡ length bytes.now)) }
+    ensures { MatchOption result (length bytes.now < 8 * length out.old) (λ rest. (out.new ≡ fields (length out.old) bytes.now) × Behind (8 * length out.old) bytes.now rest.now) }
 {
     let mut rest = bytes;
     for slot in out.iter_mut() {
@@ -27,7 +27,7 @@ fn fill<'a>(out: &mut [u64], bytes: &'a [u8]) -> Option<&'a [u8]>
 
 // The `N` numbers that these bytes begin with, and what follows them.
 pub fn numbers<const N: usize>(bytes: &[u8]) -> Option<([u64; N], &[u8])>
-    ensures { MatchOption result (length bytes.now < 8 * N) (λ p. (p.0 ≡ fields N bytes.now) × (p.1.now ≡ drop (8 * N) bytes.now) × (length p.1.now + 8 * N ≡ length bytes.now)) }
+    ensures { MatchOption result (length bytes.now < 8 * N) (λ p. (p.0 ≡ fields N bytes.now) × Behind (8 * N) bytes.now p.1.now) }
 {
     let mut out = [0; N];
     let rest = fill(&mut out, bytes)?;
@@ -50,5 +50,5 @@ pub fn exactly<const N: usize>(bytes: &[u8]) -> Option<[u64; N]>
 pub fn sector(bytes: &[u8]) -> Option<&[u8; SECTOR_BYTES]>
     ensures { MatchOption result (length bytes.now ≢ 512) (λ s. (length bytes.now ≡ 512) × (s.now ≡ bytes.now)) }
 {
-    <&[u8; SECTOR_BYTES]>::try_from(bytes).ok()
+    bytes.as_array()
 }

@@ -1,5 +1,5 @@
 // A message as bytes: its first byte, then numbers of 8 bytes each.
-ghost use Rattle.std.specs.Prelude.{ℕ, ◌+◌, ◌*◌, length, vec_len, ◌≡◌, ◌∷◌, ◌++◌, is_ok, IfOk, if◌then◌else◌};
+ghost use Rattle.std.specs.Prelude.{ℕ, ◌+◌, ◌*◌, ◌<◌, ◌≤◌, length, take, vec_len, ◌≡◌, ◌∷◌, ◌++◌, is_ok, IfOk, MatchOption, if◌then◌else◌};
 ghost use Rattle.octets.specs.Numbers.{bytes_of, numbers_bytes};
 
 use std::alloc::{AllocError, Global};
@@ -16,6 +16,7 @@ pub trait Number {
         ensures { out.new.items ≡ (if is_ok result then out.old.items ++ bytes_of width (value self) else out.old.items) };
 }
 
+// Two impls of one shape, since no macro may write an impl.
 impl Number for u64 {
     ghost width = { 8 };
 
@@ -49,6 +50,22 @@ pub fn message(heap: Global, first: u8, numbers: &[u64]) -> Result<Vec<u8>, Allo
         n.put(&mut out)?;
     }
     Ok(out)
+}
+
+// Copies a message to the front of `out`, and says how many bytes; 0 for none, or where it does not fit. It is for functions that C calls, which hand out a number and no `Option`.
+pub fn hand_out(message: Option<Vec<u8>>, out: &mut [u8]) -> usize
+    ensures bytes { MatchOption message (result ≡ 0) (λ v. 0 < result → take result out.new ≡ v.items) }
+    ensures within { result ≤ length out.new }
+{
+    let Some(bytes) = message else {
+        return 0;
+    };
+    let n = bytes.len();
+    if n > out.len() {
+        return 0;
+    }
+    out[0..n].copy_from_slice(&bytes);
+    n
 }
 
 #[cfg(test)]

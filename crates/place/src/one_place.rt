@@ -1,6 +1,6 @@
 // The one place: heads, and what sectors hold.
-ghost use Rattle.std.specs.Prelude.{◌≡◌, ◌-◌, ◌/◌, IfOk, OnOk};
-ghost use Rattle.volumes.specs.Simulation.{blank_store, needed, read_at};
+ghost use Rattle.std.specs.Prelude.{◌≡◌, IfOk, OnOk};
+ghost use Rattle.volumes.specs.Simulation.{blank_store, needed, read_at, room_left};
 ghost use Rattle.volumes.specs.Service.{the_change};
 ghost use Rattle.wire.specs.Calls.{the_call, decoded};
 ghost use Rattle.wire.specs.Kinds.{is_built};
@@ -14,8 +14,6 @@ use volumes::service::needs;
 use volumes::volumes::Volumes;
 use wire::answer::Answer;
 use wire::call::Call;
-use wire::number::*;
-use wire::refusal::Refusal;
 
 #[derive(Drop)]
 pub struct OnePlace {
@@ -26,7 +24,7 @@ pub struct OnePlace {
 impl OnePlace {
     // No volumes yet, with the room that houses' devices of so many sectors leave.
     pub fn new(heap: Global, sectors: u64) -> Result<OnePlace, AllocError>
-        ensures { IfOk result (λ p. (the_store p ≡ blank_store) × (p.volumes.room ≡ (sectors - 2048) / 4)) }
+        ensures { IfOk result (λ p. (the_store p ≡ blank_store) × (p.volumes.room ≡ room_left sectors)) }
     {
         let volumes = Volumes::new(heap, sectors)?;
         Ok(OnePlace {
@@ -68,6 +66,7 @@ impl OnePlace {
 
     // Plays a call for which this was fetched, and gives the answer's bytes.
     // Where memory fails nothing is said of what is left: such a place is dropped.
+    // `call` and `read` stay two parameters, as in `Volumes::exec`.
     pub fn play<'a>(
         &mut self,
         heap: Global,

@@ -4,6 +4,7 @@
 
 ghost use Rattle.std.specs.Prelude.{◌≤◌, length};
 
+use octets::writer::hand_out;
 use place::one_place::OnePlace;
 use std::alloc::Global;
 use wire::frame::{Frame, FrameError};
@@ -16,17 +17,7 @@ use wire::number::Customer;
 pub extern "C" fn place_play(heap: Global, sectors: u64, calls: &[u8], out: &mut [u8]) -> usize
     ensures { result ≤ length out.new }
 {
-    match play_all(heap, sectors, calls) {
-        Ok(answers) => {
-            let n = answers.len();
-            if n > out.len() {
-                return 0;
-            }
-            out[0..n].copy_from_slice(answers.as_slice());
-            n
-        }
-        Err(_) => 0,
-    }
+    hand_out(play_all(heap, sectors, calls).ok(), out)
 }
 
 fn play_all(heap: Global, sectors: u64, calls: &[u8]) -> Result<Vec<u8>, FrameError> {

@@ -11,7 +11,8 @@ use Rattle.journal.specs.declared.state.Refused.TheVariants.{OutOfRange, Numbers
 use Rattle.recovery.proofs.Writing.{all_upto}
 use Rattle.recovery.proofs.Inv.{Off, On}
 use Rattle.recovery.proofs.Cutting.{rest-cut, record_cut, placed, put_on}
-use Rattle.recovery.proofs.Tests.{both, is_so}
+use Rattle.octets.proofs.Numbers.{both}
+use Rattle.recovery.proofs.Tests.{is_so}
 
 pub record Fine (size : ℕ) (ws : List Write) : Type 0 where
   pub one : 1 ≤ length ws

@@ -1,19 +1,19 @@
 -- What transactions and opening cost, and what opening makes of any device.
-use Rattle.std.proofs.Common.{◌≡◌, ℕ, zero, suc, ◌+◌, ◌*◌, ◌<◌, ◌≤◌, Bool, true, false, cond, ◌&&◌, T, eqb, ltb, ◌≢◌, ◌⊎◌, List, [], ◌∷◌, ◌++◌, length, sym, refl, ap, ◌∙◌, subst, inl, inr, arith, lt-ltb, eqb-true, Ok, Err, Some, None}
+use Rattle.std.proofs.Common.{◌≡◌, ℕ, zero, suc, ◌+◌, ◌*◌, ◌<◌, ◌≤◌, Bool, true, false, cond, T, eqb, ltb, List, [], ◌∷◌, ◌++◌, length, sym, refl, ap, ◌∙◌, subst, arith, lt-ltb, eqb-true, Ok, Err}
 use borrow.Author.Tests.{eqb-false}
 use Rattle.disks.specs.Device.{Device, Io, answer, read, write, sync, run, Ran, shown, written, synced, then'}
 use Rattle.compose.proofs.Compose.{run_then}
-use Rattle.journal.specs.Format.{found, part_of, half_of, foreign, Found}
-use Rattle.journal.specs.Scans.{scan_start, scan_next, scan_found, scan_part, scanned, number_or_none, redo_count}
+use Rattle.journal.specs.Format.{found, part_of, half_of, foreign}
+use Rattle.journal.specs.Scans.{Scanned, scan_start, scan_on, scan_found, scanned, number_or_none, redo_count}
 use Rattle.journal.specs.Programs.{base, other, allowed, write_all_io, record_from, record_of, transact_io, put_io, scan_from, scan_io, replay_from, redo_io, recover_io, open_io, ready, Opened}
 use Rattle.recovery.specs.Promises.{count, PutCosts, OpenCosts, OpensAgain, ForeignRefused, OursOpened}
-use Rattle.journal.specs.declared.part.Part.{Part}
 use Rattle.journal.specs.declared.scan.Scan.{Scan}
 use Rattle.journal.specs.declared.state.Write.{Write}
 use Rattle.journal.specs.declared.state.Slot.{Slot}
 use Rattle.journal.specs.declared.state.Slot.TheVariants.{First, Second}
 use Rattle.journal.specs.declared.state.Journal.{Journal}
-use Rattle.recovery.proofs.Redoing.{slot_of, scan_run, redo_few, settle_io}
+use Rattle.recovery.proofs.Scanning.{gathered, scanned_is}
+use Rattle.recovery.proofs.Redoing.{slot_of, slot_run, redo_few, settle_io}
 use Rattle.recovery.proofs.Opening.{opens, opens-cut}
 use Rattle.recovery.proofs.Keeping.{held}
 use Rattle.recovery.proofs.Tests.{is_so}
@@ -50,10 +50,10 @@ pub put_costs : PutCosts
 put_costs j ws d t l = (count-put 0 0 1 j ws d t l ∙ omega arith, count-put 0 1 0 j ws d t l ∙ omega arith, count-put 1 0 0 j ws d t l ∙ omega arith)
 
 -- OPENING, on any device
-count-scan : (size at i k : ℕ) (s : Scan) (d : Device) → count 1 1 1 (scan_from size at i k s) d ≡ k
+count-scan : (size at i k : ℕ) (s : Scanned) (d : Device) → count 1 1 1 (scan_from size at i k s) d ≡ k
 unfolding count scan_from
 count-scan size at i zero s d = refl
-count-scan size at i (suc k) s d = let h = count-scan size at (i + 1) k (scan_next size i (shown d (at + i)) s) d in omega arith
+count-scan size at i (suc k) s d = let h = count-scan size at (i + 1) k (scan_on size i (shown d (at + i)) s) d in omega arith
 
 count_replay : (at i k : ℕ) (d : Device) → count 1 1 1 (replay_from at i k) d ≡ 3 * k
 unfolding count replay_from
@@ -72,17 +72,18 @@ count_redo o a b d =
     let q = count_replay (base (other o)) 0 (redo_count b) (run first d).device in
     omega (arith, redo_few a, redo_few b)
 
-count_recover : (size : ℕ) (a b : Scan) (d : Device) → count 1 1 1 (recover_io size a b) d ≤ 1441
+count_recover : (size : ℕ) (a b : Scanned) (d : Device) → count 1 1 1 (recover_io size a b) d ≤ 1441
 unfolding recover_io count
-count_recover size a b d = go (a.ours && b.ours) (ltb (number_or_none b) (number_or_none a))
+count_recover size (Err e) b d = omega arith
+count_recover size (Ok a) (Err e) d = omega arith
+count_recover size (Ok a) (Ok b) d = go (ltb (number_or_none b) (number_or_none a))
   where
     one : (o : Slot) (x y : Scan) → count {A = Opened} 1 1 1 (then' (redo_io o x y) (λ _. answer (Ok (ready size o x y)))) d ≤ 1441
     one o x y = let c = count_then {B = Opened} 1 1 1 (redo_io o x y) (λ _. answer (Ok (ready size o x y))) d in omega (arith, count_redo o x y d)
 
-    go : (u v : Bool) → count {A = Opened} 1 1 1 (cond u (cond v (then' (redo_io Second b a) (λ _. answer (Ok (ready size Second b a)))) (then' (redo_io First a b) (λ _. answer (Ok (ready size First a b))))) (answer (Err foreign))) d ≤ 1441
-    go true true = one Second b a
-    go true false = one First a b
-    go false v = omega arith
+    go : (v : Bool) → count {A = Opened} 1 1 1 (cond v (then' (redo_io Second b a) (λ _. answer (Ok (ready size Second b a)))) (then' (redo_io First a b) (λ _. answer (Ok (ready size First a b))))) d ≤ 1441
+    go true = one Second b a
+    go false = one First a b
 
 pub open_costs : OpenCosts
 unfolding open_io
@@ -91,8 +92,8 @@ open_costs size d =
     let a = (run (scan_io size First) d).value in
     let e = (run (scan_io size First) d).device in
     let y = count_then 1 1 1 (scan_io size Second) (λ b. recover_io size a b) e in
-    let p = count-scan size (base First) 0 480 scan_start d in
-    let q = count-scan size (base Second) 0 480 scan_start e in
+    let p = count-scan size (base First) 0 480 (Ok scan_start) d in
+    let q = count-scan size (base Second) 0 480 (Ok scan_start) e in
     let z = count_recover size a (run (scan_io size Second) e).value (run (scan_io size Second) e).device in
     omega arith
 
@@ -105,85 +106,53 @@ opens-again size lo hi es d tr e f up cut s t =
     on''.shows s t ∙ sym (on'.shows s t)
 
 -- FOREIGN: once seen, it is remembered
-cond-ours : (b : Bool) (x y : Scan) (v : Bool) → x.ours ≡ v → y.ours ≡ v → (cond b x y).ours ≡ v
-cond-ours true x y v p q = p
-cond-ours false x y v p q = q
-
-part-ours : (k : ℕ) (p : Part) (s : Scan) → (scan_part k p s).ours ≡ s.ours
-unfolding scan_part
-part-ours k p s = cond-ours (eqb k 0) _ _ s.ours refl refl
-
--- one sector more
-found_ours : (k : ℕ) (x : Found) (s : Scan) → x ≢ Err foreign → (scan_found k x s).ours ≡ s.ours
-unfolding scan_found
-found_ours k (Ok None) s ne = refl
-found_ours k (Ok (Some p)) s ne = part-ours k p s
-found_ours k (Err e) s ne = absurd (ne refl)
-
-stays-false : (size : ℕ) (g : ℕ → List ℕ) (k : ℕ) → (scanned size g k).ours ≡ false → (scanned size g (suc k)).ours ≡ false
-unfolding scanned scan_found
-stays-false size g k e = go (found size k (g k))
-  where
-    go : (x : Found) → (scan_found k x (scanned size g k)).ours ≡ false
-    go (Ok None) = e
-    go (Ok (Some p)) = part-ours k p (scanned size g k) ∙ e
-    go (Err e) = refl
-
-is_foreign : (size : ℕ) (g : ℕ → List ℕ) (i k : ℕ) → i < k → found size i (g i) ≡ Err foreign → (scanned size g k).ours ≡ false
+is_foreign : (size : ℕ) (g : ℕ → List ℕ) (i k : ℕ) → i < k → found size i (g i) ≡ Err foreign → scanned size g k ≡ Err foreign
 unfolding scanned scan_found
 is_foreign size g i zero l e = absurd (omega arith)
 is_foreign size g i (suc k) l e = go (eqb i k) refl (λ m. is_foreign size g i k m e)
   where
-    go : (b : Bool) → eqb i k ≡ b → (i < k → (scanned size g k).ours ≡ false) → (scanned size g (suc k)).ours ≡ false
-    go true q before = let e' = subst (λ (z : ℕ). found size z (g z) ≡ Err foreign) (eqb-true i k q) e in rw e'
-    go false q before = stays-false size g k (before (omega (arith, eqb-false i k q)))
+    here : (r : Scanned) → found size k (g k) ≡ Err foreign → scan_on size k (g k) r ≡ Err foreign
+    here (Ok s) q = rw q
+    here (Err f) q = refl
 
-no_foreign : (size : ℕ) (g : ℕ → List ℕ) (k : ℕ) → ((i : ℕ) → i < k → found size i (g i) ≢ Err foreign) → (scanned size g k).ours ≡ true
-unfolding scanned
-no_foreign size g zero e = refl
-no_foreign size g (suc k) e = found_ours k (found size k (g k)) (scanned size g k) (e k (omega arith)) ∙ no_foreign size g k (λ i l. e i (omega arith))
+    go : (b : Bool) → eqb i k ≡ b → (i < k → scanned size g k ≡ Err foreign) → scan_on size k (g k) (scanned size g k) ≡ Err foreign
+    go true q before = here (scanned size g k) (subst (λ (z : ℕ). found size z (g z) ≡ Err foreign) (eqb-true i k q) e)
+    go false q before = ap (λ (r : Scanned). scan_on size k (g k) r) (before (omega (arith, eqb-false i k q)))
 
 module _ (size : ℕ) (d : Device) where
-  slot_run : (slot : Slot) → run (scan_io size slot) d ≡ record { value = scanned size (slot_of d slot) 480; device = d }
-  unfolding scanned
-  slot_run slot = scan_run size (base slot) d 0 480
+  abbrev scan : Slot → Scanned
+  scan slot = scanned size (slot_of d slot) 480
 
-  recover_run : run (open_io size) d ≡ run (recover_io size (scanned size (slot_of d First) 480) (scanned size (slot_of d Second) 480)) d
+  recover_run : run (open_io size) d ≡ run (recover_io size (scan First) (scan Second)) d
   unfolding open_io run
   recover_run =
       run_then (scan_io size First) (λ a. then' (scan_io size Second) (λ b. recover_io size a b)) d
-      ∙ ap (λ (r : Ran Scan). run (then' (scan_io size Second) (λ b. recover_io size r.value b)) r.device) (slot_run First)
-      ∙ run_then (scan_io size Second) (λ b. recover_io size (scanned size (slot_of d First) 480) b) d
-      ∙ ap (λ (r : Ran Scan). run (recover_io size (scanned size (slot_of d First) 480) r.value) r.device) (slot_run Second)
+      ∙ ap (λ (r : Ran Scanned). run (then' (scan_io size Second) (λ b. recover_io size r.value b)) r.device) (slot_run size d First)
+      ∙ run_then (scan_io size Second) (λ b. recover_io size (scan First) b) d
+      ∙ ap (λ (r : Ran Scanned). run (recover_io size (scan First) r.value) r.device) (slot_run size d Second)
 
-  refused : (scanned size (slot_of d First) 480).ours && (scanned size (slot_of d Second) 480).ours ≡ false → run (open_io size) d ≡ record { value = Err foreign; device = d }
+  refused : (slot : Slot) → scan slot ≡ Err foreign → run (open_io size) d ≡ record { value = Err foreign; device = d }
   unfolding recover_io run
-  refused e = recover_run ∙ rw e
-
-  accepted : (scanned size (slot_of d First) 480).ours && (scanned size (slot_of d Second) 480).ours ≡ true → (j : Journal) × ((run (open_io size) d).value ≡ Ok j)
-  unfolding recover_io run
-  accepted e =
-      let x = go (ltb (number_or_none (scanned size (slot_of d Second) 480)) (number_or_none (scanned size (slot_of d First) 480))) in
-      (x.0, ap (λ (r : Ran Opened). r.value) recover_run ∙ rw e x.1)
+  refused First e = recover_run ∙ ap (λ (r : Scanned). run (recover_io size r (scan Second)) d) e
+  refused Second e = recover_run ∙ ap (λ (r : Scanned). run (recover_io size (scan First) r) d) e ∙ go (scan First)
     where
-      a : Scan
-      a = scanned size (slot_of d First) 480
+      go : (r : Scanned) → run (recover_io size r (Err foreign)) d ≡ record { value = Err foreign; device = d }
+      go (Ok a) = refl
+      go (Err f) = refl
 
-      b : Scan
-      b = scanned size (slot_of d Second) 480
-
+  accepted : (a b : Scan) → scan First ≡ Ok a → scan Second ≡ Ok b → (j : Journal) × ((run (open_io size) d).value ≡ Ok j)
+  unfolding recover_io run
+  accepted a b p q =
+      let x = go (ltb (number_or_none b) (number_or_none a)) in
+      (x.0, ap (λ (r : Ran Opened). r.value) (recover_run ∙ ap (λ (r : Scanned). run (recover_io size r (scan Second)) d) p ∙ ap (λ (r : Scanned). run (recover_io size (Ok a) r) d) q) ∙ x.1)
+    where
       go : (v : Bool) → (j : Journal) × ((run {A = Opened} (cond v (then' (redo_io Second b a) (λ _. answer (Ok (ready size Second b a)))) (then' (redo_io First a b) (λ _. answer (Ok (ready size First a b))))) d).value ≡ Ok j)
       go true = (ready size Second b a, ap (λ (r : Ran Opened). r.value) (run_then (redo_io Second b a) (λ _. answer (Ok (ready size Second b a))) d))
       go false = (ready size First a b, ap (λ (r : Ran Opened). r.value) (run_then (redo_io First a b) (λ _. answer (Ok (ready size First a b))) d))
 
-either-false : (x y : Bool) → (x ≡ false) ⊎ (y ≡ false) → x && y ≡ false
-either-false true y (inl e) = absurd (subst T e tt)
-either-false true y (inr e) = e
-either-false false y o = refl
-
 pub foreign_refused : ForeignRefused
-foreign_refused size d First i l e = refused size d (either-false _ _ (inl (is_foreign size (slot_of d First) i 480 l e)))
-foreign_refused size d Second i l e = refused size d (either-false _ _ (inr (is_foreign size (slot_of d Second) i 480 l e)))
+foreign_refused size d slot i l e = refused size d slot (is_foreign size (slot_of d slot) i 480 l e)
 
 pub ours-opened : OursOpened
-ours-opened size d no' = accepted size d (rw (no_foreign size (slot_of d First) 480 (no' First), no_foreign size (slot_of d Second) 480 (no' Second)))
+ours-opened size d no' =
+    accepted size d (gathered size (slot_of d First) 480) (gathered size (slot_of d Second) 480) (scanned_is size (slot_of d First) 480 (no' First)) (scanned_is size (slot_of d Second) 480 (no' Second))

@@ -15,7 +15,7 @@ use Rattle.recovery.proofs.Writing.{Alike, alike_shown, Among, upto_other, upto_
 use Rattle.recovery.proofs.Records.{from_in, from_out, from_among, sector-bytes}
 use Rattle.recovery.proofs.Scanning.{Ours}
 use Rattle.recovery.proofs.Mixing.{number_in, writes_in, there, mixed-ours, outcome, Outcome, new, as_before, none}
-use Rattle.recovery.proofs.Redoing.{slot_of}
+use Rattle.recovery.proofs.Redoing.{slot_of, slot_low}
 use Rattle.recovery.proofs.Inv.{Can, IsSector, redone_with, Off, Safe, On, other_other, ours_more, number_cong, writes_in_cong, number-low, no_writes, redone-by, redone_one, can-cut, can_shown, can-quiet}
 
 -- the order of two slots
@@ -166,11 +166,7 @@ module _ (size n : ℕ) (array : ℕ → List ℕ) (j : Journal) (d : Device) (o
 
   module _ (f : Device) (up : Upto (write_all_io ws) recorded f) where
     in_journal : (slot : Slot) (i : ℕ) → i < 480 → Alike recorded f (base slot + i)
-    in_journal slot i l = upto_other ws recorded f (base slot + i) (below-area size ws (base slot + i) area (low slot)) up
-      where
-        low : (slot : Slot) → base slot + i < 960
-        low First = omega arith
-        low Second = omega arith
+    in_journal slot i l = upto_other ws recorded f (base slot + i) (below-area size ws (base slot + i) area (slot_low slot i l)) up
 
     slot_shown : (slot : Slot) (i : ℕ) → i < 480 → slot_of f slot i ≡ last rec (shown d (base slot + i)) (base slot + i)
     slot_shown slot i l = alike_shown (in_journal slot i l) ∙ recorded_shown (base slot + i)

@@ -6,7 +6,7 @@ use mathlib.Core.List.Memᴰ
 use mathlib.Core.List.{Memᴰ}
 use Rattle.disks.specs.Device.{Device, shown, latest, AfterCut, all_bytes}
 use Rattle.journal.specs.Format.{found}
-use Rattle.journal.specs.Scans.{scanned, number_of, number_or_none, redo_count, writes_from}
+use Rattle.journal.specs.Scans.{number_of, number_or_none, redo_count, writes_from}
 use Rattle.journal.specs.Programs.{base, other, in_area}
 use Rattle.recovery.specs.Machines.{last}
 use Rattle.journal.specs.declared.part.Part.{Part}
@@ -16,7 +16,7 @@ use Rattle.journal.specs.declared.state.Slot.{Slot}
 use Rattle.journal.specs.declared.state.Slot.TheVariants.{First, Second}
 use Rattle.journal.specs.declared.state.Journal.{Journal}
 use Rattle.recovery.proofs.Sound.{found_is}
-use Rattle.recovery.proofs.Scanning.{Ours, whole_found, scan_cong}
+use Rattle.recovery.proofs.Scanning.{Ours, whole_found, scan_cong, gathered}
 use Rattle.recovery.proofs.Records.{writes_cong}
 use Rattle.recovery.proofs.Mixing.{number_in, writes_in, none-writes}
 use Rattle.recovery.proofs.Redoing.{slot_of, redo_few}
@@ -69,11 +69,11 @@ pub number_cong : (size : ℕ) (g h : ℕ → List ℕ) → ((i : ℕ) → i < 4
 number_cong size g h e = ap number_or_none (scan_cong size g h 480 e)
 
 pub writes_in_cong : (size : ℕ) (g h : ℕ → List ℕ) → ((i : ℕ) → i < 480 → g i ≡ h i) → writes_in size g ≡ writes_in size h
-writes_in_cong size g h e = let c = redo_few (scanned size g 480) in writes_cong g h 0 (redo_count (scanned size g 480)) (λ q l. e q (omega arith)) ∙ ap (λ k. writes_from h 0 (redo_count k)) (scan_cong size g h 480 e)
+writes_in_cong size g h e = let c = redo_few (gathered size g 480) in writes_cong g h 0 (redo_count (gathered size g 480)) (λ q l. e q (omega arith)) ∙ ap (λ k. writes_from h 0 (redo_count k)) (scan_cong size g h 480 e)
 
 -- of sectors that are ours: the number is no higher than any; and no number means no writes
 module _ (size most : ℕ) (g : ℕ → List ℕ) (ours : (i : ℕ) → i < 480 → Ours size most i (g i)) where
-  is_some : (r : Record) → (scanned size g 480).whole ≡ Some r → (1 ≤ r.number) × (r.number ≤ most)
+  is_some : (r : Record) → (gathered size g 480).whole ≡ Some r → (1 ≤ r.number) × (r.number ≤ most)
   is_some r e =
       let w = whole_found size g most ours r e in
       let (p, f, a, b) = w.each 0 w.some in
@@ -85,16 +85,16 @@ module _ (size most : ℕ) (g : ℕ → List ℕ) (ours : (i : ℕ) → i < 480 
       go p f a (inr q) = let (p', f', l) = q in let same : p' ≡ p = cc in omega (arith, ap (λ (x : Part). x.number) same)
 
   pub number-low : number_in size g ≤ most
-  number-low = go (scanned size g 480).whole refl
+  number-low = go (gathered size g 480).whole refl
     where
-      go : (x : Option Record) → (scanned size g 480).whole ≡ x → unwrap_or (number_of x) 0 ≤ most
+      go : (x : Option Record) → (gathered size g 480).whole ≡ x → unwrap_or (number_of x) 0 ≤ most
       go (Some r) e = (is_some r e).1
       go None e = omega arith
 
   pub no_writes : number_in size g ≡ 0 → writes_in size g ≡ []
-  no_writes z = go (scanned size g 480).whole refl z
+  no_writes z = go (gathered size g 480).whole refl z
     where
-      go : (x : Option Record) → (scanned size g 480).whole ≡ x → unwrap_or (number_of x) 0 ≡ 0 → writes_in size g ≡ []
+      go : (x : Option Record) → (gathered size g 480).whole ≡ x → unwrap_or (number_of x) 0 ≡ 0 → writes_in size g ≡ []
       go (Some r) e q = absurd (omega (arith, (is_some r e).0))
       go None e q = none-writes size g e
 

@@ -4,7 +4,7 @@ use Rattle.std.proofs.Common.{◌≡◌, ℕ, zero, suc, ◌+◌, ◌≤◌, Boo
 use Rattle.disks.specs.Device.{Device, blank_device, zeros, answer, run, Ran, Upto, here, latest, AfterCut, Event, called, cut_in, cut_between, World, off, on, Trace, begin, opened, opening_cut, answered, call_cut, between_cut, Allowed, at_start, was_lost, was_done, came_between, came_opening, all_bytes, then'}
 use Rattle.compose.proofs.Compose.{run_then, upto_map}
 use Rattle.journal.specs.Format.{found}
-use Rattle.journal.specs.Scans.{scan_found, scanned}
+use Rattle.journal.specs.Scans.{scan_blank}
 use Rattle.journal.specs.Programs.{in_area, allowed, open_io, get_io, put_io, Put', after_put, Opened, Got}
 use Rattle.recovery.specs.Machines.{Call, Get, Put, Reply, Done', No, got_reply, put_reply, whole_sectors, call_io, journal, Array, last, later, put_into, Answers, got, not_got, put, not_put, used-up, falls, array, JournalKeeps}
 use Rattle.journal.specs.declared.Place.{Place}
@@ -12,6 +12,7 @@ use Rattle.journal.specs.declared.state.Write.{Write}
 use Rattle.journal.specs.declared.state.Slot.{Slot}
 use Rattle.journal.specs.declared.state.Slot.TheVariants.{First, Second}
 use Rattle.journal.specs.declared.state.Journal.{Journal}
+use Rattle.recovery.proofs.Scanning.{gathered, gathered_one}
 use Rattle.recovery.proofs.Sound.{found_blank}
 use Rattle.recovery.proofs.Mixing.{writes_in, none_number, none-writes}
 use Rattle.recovery.proofs.Redoing.{slot_of}
@@ -19,11 +20,11 @@ use Rattle.recovery.proofs.Inv.{Off, On, ours_more}
 use Rattle.recovery.proofs.Cutting.{off_of, rest-cut}
 use Rattle.recovery.proofs.Opening.{opens, opens-cut}
 use Rattle.recovery.proofs.Calls.{get_run, get_refused, get_upto, put_refused, put-used-up, put_run, put-after, put-cut, put-still}
-use Rattle.recovery.proofs.Tests.{join}
+use Rattle.octets.proofs.Numbers.{join}
 
 -- a blank slot has nothing to do again
-blank-scan : (size : ℕ) (g : ℕ → List ℕ) (k : ℕ) → ((i : ℕ) → found size i (g i) ≡ Ok None) → (scanned size g k).whole ≡ None
-unfolding scanned scan_found
+blank-scan : (size : ℕ) (g : ℕ → List ℕ) (k : ℕ) → ((i : ℕ) → found size i (g i) ≡ Ok None) → (gathered size g k).whole ≡ None
+unfolding gathered gathered_one scan_blank
 blank-scan size g zero e = refl
 blank-scan size g (suc k) e = rw (e k, blank-scan size g k e)
 

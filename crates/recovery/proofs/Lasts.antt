@@ -1,5 +1,6 @@
 -- What stands at a sector after writes: it depends on what stood there before only where no write names the sector.
-use Rattle.std.proofs.Common.{◌≡◌, ℕ, ◌<◌, Bool, true, false, cond, ◌&&◌, ◌||◌, T, eqb, ltb, leb, ◌⊎◌, List, [], ◌∷◌, ◌++◌, sym, refl, ap, subst, inl, inr, arith, eqb-true, leb-true}
+use Rattle.std.proofs.Common.{◌≡◌, ℕ, ◌<◌, Bool, true, false, cond, ◌&&◌, ◌||◌, T, eqb, ltb, leb, List, [], ◌∷◌, ◌++◌, sym, refl, ap, subst, inl, inr, arith, eqb-true, leb-true}
+use Rattle.std.proofs.lemmas.Bool.{cases_Bool}
 use Rattle.journal.specs.Programs.{named, all_in_area}
 use Rattle.recovery.specs.Machines.{last}
 use Rattle.journal.specs.declared.state.Write.{Write}
@@ -32,21 +33,13 @@ last_other (w ∷ ws) x s h = go (eqb s w.target.0) h (last_other ws x s)
     go true q more = absurd (subst T q tt)
     go false q more = more q
 
--- either of the two
-pub named_or : (s : ℕ) (ws : List Write) → (named s ws ≡ true) ⊎ (named s ws ≡ false)
-named_or s ws = go (named s ws)
-  where
-    go : (b : Bool) → (b ≡ true) ⊎ (b ≡ false)
-    go true = inl refl
-    go false = inr refl
-
 -- the same writes again change nothing
 pub last-again : (ws : List Write) (x : List ℕ) (s : ℕ) → last ws (last ws x s) s ≡ last ws x s
-last-again ws x s = elim (named_or s ws) [ inl n ↦ last-named ws (last ws x s) x s n | inr n ↦ last_other ws (last ws x s) s n ]
+last-again ws x s = elim (cases_Bool (named s ws)) [ inl n ↦ last-named ws (last ws x s) x s n | inr n ↦ last_other ws (last ws x s) s n ]
 
 -- where the sector is not named, or what stood there is the same, the outcome is the same
 pub last_same : (ws : List Write) (x y : List ℕ) (s : ℕ) → (named s ws ≡ false → x ≡ y) → last ws x s ≡ last ws y s
-last_same ws x y s h = elim (named_or s ws) [ inl n ↦ last-named ws x y s n | inr n ↦ ap (λ (z : List ℕ). last ws z s) (h n) ]
+last_same ws x y s h = elim (cases_Bool (named s ws)) [ inl n ↦ last-named ws x y s n | inr n ↦ ap (λ (z : List ℕ). last ws z s) (h n) ]
 
 -- writes within the guarded area name no sector below it
 pub below-area : (size : ℕ) (ws : List Write) (s : ℕ) → T (all_in_area size ws) → s < 960 → named s ws ≡ false

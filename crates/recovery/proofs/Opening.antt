@@ -1,10 +1,12 @@
 -- Opening: from a device with the power off it leaves the journal on, with the same array; cut anywhere, it leaves a device from which it can
 -- be opened again, with the same array.
-use Rattle.std.proofs.Common.{◌≡◌, ℕ, ◌+◌, ◌<◌, ◌≤◌, Bool, true, false, ◌&&◌, ◌||◌, T, eqb, ltb, ◌⊎◌, List, [], ◌∷◌, ◌++◌, sym, refl, ap, ◌∙◌, subst, inl, inr, arith, ltb-false, ltb-true, lt-ltb, eqb-true, Ok, Some}
+use Rattle.std.proofs.Common.{◌≡◌, ℕ, ◌+◌, ◌<◌, ◌≤◌, Bool, true, false, T, eqb, ltb, ◌⊎◌, List, ◌++◌, sym, refl, ap, ◌∙◌, subst, inl, inr, arith, ltb-false, ltb-true, lt-ltb, eqb-true, Ok, Some}
 use borrow.Author.Tests.{eqb-false}
+use Rattle.std.proofs.lemmas.Bool.{or_from}
+use Rattle.std.proofs.lemmas.List.Folds.{list_any-append}
 use Rattle.disks.specs.Device.{Device, Io, answer, run, Ran, Upto, here, shown, latest, synced, then', AfterCut}
 use Rattle.compose.proofs.Compose.{run_then, upto_then, upto_map}
-use Rattle.journal.specs.Scans.{scan_start, scanned, higher}
+use Rattle.journal.specs.Scans.{Scanned, scan_start, higher}
 use Rattle.journal.specs.Programs.{base, other, in_area, named, write_all_io, scan_io, redo_io, recover_io, open_io, ready, Opened}
 use Rattle.recovery.specs.Machines.{last}
 use Rattle.journal.specs.Format.{found}
@@ -17,21 +19,16 @@ use Rattle.journal.specs.declared.state.Journal.{Journal}
 use Rattle.recovery.proofs.Lasts.{last-append, last-again, last_same, below-area}
 use Rattle.recovery.proofs.Writing.{alike_shown, upto_other, all_upto, all_shown}
 use Rattle.recovery.proofs.Sound.{found_is}
-use Rattle.recovery.proofs.Scanning.{Ours, seen, high_left, high_right, high_most}
+use Rattle.recovery.proofs.Scanning.{Ours, scanned_is, not_foreign, seen, high_left, high_right, high_most, gathered}
 use Rattle.recovery.proofs.Mixing.{number_in, writes_in}
-use Rattle.recovery.proofs.Redoing.{slot_of, scan_run, scan_upto, redone, all_done, redo_run, redo_upto, found_in_area}
+use Rattle.recovery.proofs.Redoing.{slot_of, slot_low, slot_run, scan_upto, redone, all_done, redo_run, redo_upto, found_in_area}
 use Rattle.recovery.proofs.Inv.{Can, IsSector, redone_with, Off, On, ours_more, writes_in_cong, redone-by, can-cut, can-quiet}
 use Rattle.recovery.proofs.Cutting.{Order, per_slot, off_of, order_cong, both_cong, rest-cut}
 
 -- writes of both slots stay in the guarded area
 area-append : (xs ys : List Write) (s : ℕ) → named s xs ≡ false → named s ys ≡ false → named s (xs ++ ys) ≡ false
 unfolding named
-area-append [] ys s a b = b
-area-append (x ∷ xs) ys s a b = go (eqb s x.target.0) a (λ q. area-append xs ys s q b)
-  where
-    go : (c : Bool) → c || named s xs ≡ false → (named s xs ≡ false → named s (xs ++ ys) ≡ false) → c || named s (xs ++ ys) ≡ false
-    go true q more = absurd (subst T q tt)
-    go false q more = more q
+area-append xs ys s a b = list_any-append (λ (w : Write). eqb s w.target.0) xs ys ∙ or_from (named s xs) (named s ys) a b
 
 module _ (size n : ℕ) (array : ℕ → List ℕ) (d : Device) (off : Off size n array d) where
   -- numbers stay below the limit by themselves
@@ -48,11 +45,7 @@ module _ (size n : ℕ) (array : ℕ → List ℕ) (d : Device) (off : Off size 
     again = redone size n d off.ours o
 
     not_journal : (slot : Slot) (i : ℕ) → i < 480 → named (base slot + i) again ≡ false
-    not_journal slot i l = area-append (writes_in size (slot_of d o)) (writes_in size (slot_of d (other o))) (base slot + i) (below-area size (writes_in size (slot_of d o)) (base slot + i) (found_in_area size n (slot_of d o) (off.ours o)) (low slot)) (below-area size (writes_in size (slot_of d (other o))) (base slot + i) (found_in_area size n (slot_of d (other o)) (off.ours (other o))) (low slot))
-      where
-        low : (slot : Slot) → base slot + i < 960
-        low First = omega arith
-        low Second = omega arith
+    not_journal slot i l = area-append (writes_in size (slot_of d o)) (writes_in size (slot_of d (other o))) (base slot + i) (below-area size (writes_in size (slot_of d o)) (base slot + i) (found_in_area size n (slot_of d o) (off.ours o)) (slot_low slot i l)) (below-area size (writes_in size (slot_of d (other o))) (base slot + i) (found_in_area size n (slot_of d (other o)) (off.ours (other o))) (slot_low slot i l))
 
     value : (s : ℕ) → T (in_area size s) → last again (shown d s) s ≡ array s
     value s t = ap (λ (ws : List Write). last ws (shown d s) s) (sym by) ∙ off.holds s t
@@ -82,10 +75,10 @@ module _ (size n : ℕ) (array : ℕ → List ℕ) (d : Device) (off : Off size 
     opened_shown s t = all_shown again d s ∙ value s t
 
     abbrev a : Scan
-    a = scanned size (slot_of d o) 480
+    a = gathered size (slot_of d o) 480
 
     abbrev b : Scan
-    b = scanned size (slot_of d (other o)) 480
+    b = gathered size (slot_of d (other o)) 480
 
     highest_low : higher a.highest b.highest < 4611686018427387904
     highest_low =
@@ -145,32 +138,28 @@ module _ (size n : ℕ) (array : ℕ → List ℕ) (d : Device) (off : Off size 
       go false q = (inl (omega (arith, eqb-false (number_in size (slot_of d First)) (number_in size (slot_of d Second)) q, ltb-false (number_in size (slot_of d Second)) (number_in size (slot_of d First)) e)), rw e)
 
   -- THE PROGRAM: both scans read only
-  pub scan_is : (slot : Slot) → run (scan_io size slot) d ≡ record { value = scanned size (slot_of d slot) 480; device = d }
-  unfolding scanned
-  scan_is slot = scan_run size (base slot) d 0 480
-
   abbrev scan : Slot → Scan
-  scan slot = scanned size (slot_of d slot) 480
+  scan slot = gathered size (slot_of d slot) 480
 
-  is_ours : (scan First).ours && (scan Second).ours ≡ true
-  is_ours = rw ((seen size (slot_of d First) n 480 (off.ours First)).ours, (seen size (slot_of d Second) n 480 (off.ours Second)).ours)
+  pub scan_is : (slot : Slot) → run (scan_io size slot) d ≡ record { value = Ok (scan slot); device = d }
+  scan_is slot = slot_run size d slot ∙ ap (λ (r : Scanned). record { value = r; device = d }) (scanned_is size (slot_of d slot) 480 (λ i l. not_foreign size n i (slot_of d slot i) (off.ours slot i l)))
 
   -- what follows the scans
   abbrev rest : Slot → Io Opened
   rest o = then' (redo_io o (scan o) (scan (other o))) (λ _. answer (Ok (ready size o (scan o) (scan (other o)))))
 
-  pub recover_is : (o : Slot) → Older o → recover_io size (scan First) (scan Second) ≡ rest o
+  pub recover_is : (o : Slot) → Older o → recover_io size (Ok (scan First)) (Ok (scan Second)) ≡ rest o
   unfolding recover_io
-  recover_is Second (second e) = rw (is_ours, e)
-  recover_is First (first e) = rw (is_ours, e)
+  recover_is Second (second e) = rw e
+  recover_is First (first e) = rw e
 
   pub open_run : (o : Slot) → Older o → run (open_io size) d ≡ record { value = Ok (ready size o (scan o) (scan (other o))); device = synced (all_done size n d off.ours o) }
   unfolding open_io run
   open_run o x =
       run_then (scan_io size First) (λ a. then' (scan_io size Second) (λ b. recover_io size a b)) d
-      ∙ ap (λ (r : Ran Scan). run (then' (scan_io size Second) (λ b. recover_io size r.value b)) r.device) (scan_is First)
-      ∙ run_then (scan_io size Second) (λ b. recover_io size (scan First) b) d
-      ∙ ap (λ (r : Ran Scan). run (recover_io size (scan First) r.value) r.device) (scan_is Second)
+      ∙ ap (λ (r : Ran Scanned). run (then' (scan_io size Second) (λ b. recover_io size r.value b)) r.device) (scan_is First)
+      ∙ run_then (scan_io size Second) (λ b. recover_io size (Ok (scan First)) b) d
+      ∙ ap (λ (r : Ran Scanned). run (recover_io size (Ok (scan First)) r.value) r.device) (scan_is Second)
       ∙ ap (λ (p : Io Opened). run p d) (recover_is o x)
       ∙ run_then (redo_io o (scan o) (scan (other o))) (λ _. answer (Ok (ready size o (scan o) (scan (other o))))) d
       ∙ ap (λ (r : Ran (Unit {0})). record { value = Ok (ready size o (scan o) (scan (other o))); device = r.device }) (redo_run size n d off.ours o)
@@ -180,8 +169,8 @@ module _ (size n : ℕ) (array : ℕ → List ℕ) (d : Device) (off : Off size 
   unfolding open_io run
   open_upto o x e u =
       elim (upto_then (scan_io size First) (λ a. then' (scan_io size Second) (λ b. recover_io size a b)) d e u) [
-        | inl v ↦ still (scan_upto size (base First) 0 480 scan_start d e v)
-        | inr v ↦ second-scan (subst (λ (r : Ran Scan). Upto (then' (scan_io size Second) (λ b. recover_io size r.value b)) r.device e) (scan_is First) v)
+        | inl v ↦ still (scan_upto size (base First) 0 480 (Ok scan_start) d e v)
+        | inr v ↦ second-scan (subst (λ (r : Ran Scanned). Upto (then' (scan_io size Second) (λ b. recover_io size r.value b)) r.device e) (scan_is First) v)
       ]
     where
       still : e ≡ d → Upto (write_all_io (redone size n d off.ours o)) d e ⊎ (e ≡ synced (all_done size n d off.ours o))
@@ -190,11 +179,11 @@ module _ (size n : ℕ) (array : ℕ → List ℕ) (d : Device) (off : Off size 
       then_rest : Upto (rest o) d e → Upto (write_all_io (redone size n d off.ours o)) d e ⊎ (e ≡ synced (all_done size n d off.ours o))
       then_rest v = redo_upto size n d off.ours o e (upto_map (redo_io o (scan o) (scan (other o))) (λ _. Ok (ready size o (scan o) (scan (other o)))) d e v)
 
-      second-scan : Upto (then' (scan_io size Second) (λ b. recover_io size (scan First) b)) d e → Upto (write_all_io (redone size n d off.ours o)) d e ⊎ (e ≡ synced (all_done size n d off.ours o))
+      second-scan : Upto (then' (scan_io size Second) (λ b. recover_io size (Ok (scan First)) b)) d e → Upto (write_all_io (redone size n d off.ours o)) d e ⊎ (e ≡ synced (all_done size n d off.ours o))
       second-scan v =
-          elim (upto_then (scan_io size Second) (λ b. recover_io size (scan First) b) d e v) [
-            | inl w ↦ still (scan_upto size (base Second) 0 480 scan_start d e w)
-            | inr w ↦ then_rest (subst (λ (p : Io Opened). Upto p d e) (recover_is o x) (subst (λ (r : Ran Scan). Upto (recover_io size (scan First) r.value) r.device e) (scan_is Second) w))
+          elim (upto_then (scan_io size Second) (λ b. recover_io size (Ok (scan First)) b) d e v) [
+            | inl w ↦ still (scan_upto size (base Second) 0 480 (Ok scan_start) d e w)
+            | inr w ↦ then_rest (subst (λ (p : Io Opened). Upto p d e) (recover_is o x) (subst (λ (r : Ran Scanned). Upto (recover_io size (Ok (scan First)) r.value) r.device e) (scan_is Second) w))
           ]
 
   pub which : (o : Slot) × Older o

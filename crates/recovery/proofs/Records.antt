@@ -13,7 +13,8 @@ use Rattle.octets.proofs.Fields.{bytes_take, bytes_drop}
 use Rattle.recovery.proofs.Sound.{Sound, part_back, found_part, half_back, length_part, bytes-part}
 use Rattle.recovery.proofs.Writing.{Among, this, further}
 use Rattle.recovery.proofs.Lasts.{last_other}
-use Rattle.recovery.proofs.Tests.{both, is_so}
+use Rattle.octets.proofs.Numbers.{both}
+use Rattle.recovery.proofs.Tests.{is_so}
 
 pub area_at : (size : ℕ) (ws : List Write) (k : ℕ) → T (all_in_area size ws) → k < length ws → (960 ≤ (get_or ws k no_write).target.0) × ((get_or ws k no_write).target.0 < size)
 unfolding all_in_area

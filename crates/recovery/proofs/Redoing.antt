@@ -3,8 +3,8 @@ use Rattle.std.proofs.Common.{◌≡◌, ℕ, zero, suc, ◌+◌, ◌*◌, ◌/�
 use Rattle.disks.specs.Device.{Device, Io, answer, sync, run, Ran, Upto, here, reads, writes, syncs, shown, written, synced, then'}
 use Rattle.compose.proofs.Compose.{run_then, upto_then}
 use Rattle.journal.specs.Format.{part_of, half_of}
-use Rattle.journal.specs.Scans.{scan_next, scanned, count_of, redo_count, write_at, writes_from}
-use Rattle.journal.specs.Programs.{base, other, write_all_io, all_in_area, scan_from, replay_from, redo_io}
+use Rattle.journal.specs.Scans.{Scanned, scan_on, scanned, count_of, redo_count, write_at, writes_from}
+use Rattle.journal.specs.Programs.{base, other, write_all_io, all_in_area, scan_from, scan_io, replay_from, redo_io}
 use Rattle.journal.specs.declared.part.Part.{Part}
 use Rattle.journal.specs.declared.scan.Record.{Record}
 use Rattle.journal.specs.declared.scan.Scan.{Scan}
@@ -14,9 +14,10 @@ use Rattle.journal.specs.declared.state.Slot.TheVariants.{First, Second}
 use Rattle.recovery.proofs.Lasts.{below-area}
 use Rattle.recovery.proofs.Writing.{alike_shown, upto_other, all_upto, written_other}
 use Rattle.recovery.proofs.Sound.{found_is}
-use Rattle.recovery.proofs.Scanning.{Ours, Whole, whole_found}
+use Rattle.recovery.proofs.Scanning.{Ours, Whole, whole_found, gathered}
 use Rattle.recovery.proofs.Mixing.{writes_in, none-writes, whole-count}
-use Rattle.recovery.proofs.Tests.{both, join, is_so}
+use Rattle.octets.proofs.Numbers.{both, join}
+use Rattle.recovery.proofs.Tests.{is_so}
 
 -- SCANS
 pub scan_run : (size at : ℕ) (d : Device) (i k : ℕ) → run (scan_from size at i k (scanned size (λ q. shown d (at + q)) i)) d ≡ record { value = scanned size (λ q. shown d (at + q)) (i + k); device = d }
@@ -24,14 +25,14 @@ unfolding scan_from run scanned
 scan_run size at d i zero = rw add-zero
 scan_run size at d i (suc k) =
     let e : i + 1 + k ≡ i + suc k = omega arith in
-    let s : scan_next size i (shown d (at + i)) (scanned size (λ q. shown d (at + q)) i) ≡ scanned size (λ q. shown d (at + q)) (i + 1) = rw add-one in
-    ap (λ (x : Scan). run (scan_from size at (i + 1) k x) d) s ∙ scan_run size at d (i + 1) k ∙ ap (λ (x : ℕ). record { value = scanned size (λ q. shown d (at + q)) x; device = d }) e
+    let s : scan_on size i (shown d (at + i)) (scanned size (λ q. shown d (at + q)) i) ≡ scanned size (λ q. shown d (at + q)) (i + 1) = rw add-one in
+    ap (λ (x : Scanned). run (scan_from size at (i + 1) k x) d) s ∙ scan_run size at d (i + 1) k ∙ ap (λ (x : ℕ). record { value = scanned size (λ q. shown d (at + q)) x; device = d }) e
 
-pub scan_upto : (size at i k : ℕ) (s : Scan) (d e : Device) → Upto (scan_from size at i k s) d e → e ≡ d
+pub scan_upto : (size at i k : ℕ) (s : Scanned) (d e : Device) → Upto (scan_from size at i k s) d e → e ≡ d
 unfolding scan_from
 scan_upto size at i zero s d e here = refl
 scan_upto size at i (suc k) s d e here = refl
-scan_upto size at i (suc k) s d e (reads u) = scan_upto size at (i + 1) k (scan_next size i (shown d (at + i)) s) d e u
+scan_upto size at i (suc k) s d e (reads u) = scan_upto size at (i + 1) k (scan_on size i (shown d (at + i)) s) d e u
 
 -- WRITES one behind the other
 pub all_append : (xs ys : List Write) (d : Device) → run (write_all_io (xs ++ ys)) d ≡ run (write_all_io ys) (run (write_all_io xs) d).device
@@ -101,12 +102,12 @@ in_area_lem size g n len i (suc k) w l =
 
 pub found_in_area : (size most : ℕ) (g : ℕ → List ℕ) → ((i : ℕ) → i < 480 → Ours size most i (g i)) → T (all_in_area size (writes_in size g))
 unfolding all_in_area
-found_in_area size most g ours = go (scanned size g 480).whole refl
+found_in_area size most g ours = go (gathered size g 480).whole refl
   where
     nothing : T (all_in_area size [])
     nothing = tt
 
-    go : (x : Option Record) → (scanned size g 480).whole ≡ x → T (all_in_area size (writes_in size g))
+    go : (x : Option Record) → (gathered size g 480).whole ≡ x → T (all_in_area size (writes_in size g))
     go (Some r) e =
         let n = r.number in
         let len = r.length in
@@ -129,9 +130,18 @@ redo_few s = go s.whole
 abbrev pub slot_of : Device → Slot → ℕ → List ℕ
 slot_of d slot q = shown d (base slot + q)
 
-slot_low : (slot : Slot) (q : ℕ) → q < 480 → base slot + q < 960
+pub slot_low : (slot : Slot) (q : ℕ) → q < 480 → base slot + q < 960
 slot_low First q l = omega arith
 slot_low Second q l = omega arith
+
+-- a record lies within its slot
+pub slot_room : (slot : Slot) (s : Scan) → base slot + 2 * (0 + redo_count s) ≤ 960
+slot_room First s = omega (arith, redo_few s)
+slot_room Second s = omega (arith, redo_few s)
+
+pub slot_run : (size : ℕ) (d : Device) (slot : Slot) → run (scan_io size slot) d ≡ record { value = scanned size (slot_of d slot) 480; device = d }
+unfolding scanned
+slot_run size d slot = scan_run size (base slot) d 0 480
 
 abbrev pub settle_io : Io (Unit {0})
 settle_io = sync (answer tt)
@@ -148,53 +158,41 @@ module _ (size most : ℕ) (d : Device) (ours : (slot : Slot) (i : ℕ) → i < 
   pub same_after : (q : ℕ) → q < 480 → slot_of first (other older) q ≡ slot_of d (other older) q
   same_after q l = alike_shown (upto_other (writes_in size (slot_of d older)) d first (base (other older) + q) (below-area size (writes_in size (slot_of d older)) (base (other older) + q) (found_in_area size most (slot_of d older) (ours older)) (slot_low (other older) q l)) (all_upto (writes_in size (slot_of d older)) d))
 
-  pub one_run : run (replay_from (base older) 0 (redo_count (scanned size (slot_of d older) 480))) d ≡ run (write_all_io (writes_in size (slot_of d older))) d
-  one_run = replay_run size (base older) (slot_of d older) 0 _ d (room older) (found_in_area size most (slot_of d older) (ours older)) (λ q l. refl)
-    where
-      room : (slot : Slot) → base slot + 2 * (0 + redo_count (scanned size (slot_of d older) 480)) ≤ 960
-      room First = omega (arith, redo_few (scanned size (slot_of d older) 480))
-      room Second = omega (arith, redo_few (scanned size (slot_of d older) 480))
+  pub one_run : run (replay_from (base older) 0 (redo_count (gathered size (slot_of d older) 480))) d ≡ run (write_all_io (writes_in size (slot_of d older))) d
+  one_run = replay_run size (base older) (slot_of d older) 0 _ d (slot_room older (gathered size (slot_of d older) 480)) (found_in_area size most (slot_of d older) (ours older)) (λ q l. refl)
 
-  two_run : run (replay_from (base (other older)) 0 (redo_count (scanned size (slot_of d (other older)) 480))) first ≡ run (write_all_io (writes_in size (slot_of d (other older)))) first
-  two_run = replay_run size (base (other older)) (slot_of d (other older)) 0 _ first (room (other older)) (found_in_area size most (slot_of d (other older)) (ours (other older))) (λ q l. same_after q (omega (arith, redo_few (scanned size (slot_of d (other older)) 480))))
-    where
-      room : (slot : Slot) → base slot + 2 * (0 + redo_count (scanned size (slot_of d (other older)) 480)) ≤ 960
-      room First = omega (arith, redo_few (scanned size (slot_of d (other older)) 480))
-      room Second = omega (arith, redo_few (scanned size (slot_of d (other older)) 480))
+  two_run : run (replay_from (base (other older)) 0 (redo_count (gathered size (slot_of d (other older)) 480))) first ≡ run (write_all_io (writes_in size (slot_of d (other older)))) first
+  two_run = replay_run size (base (other older)) (slot_of d (other older)) 0 _ first (slot_room (other older) (gathered size (slot_of d (other older)) 480)) (found_in_area size most (slot_of d (other older)) (ours (other older))) (λ q l. same_after q (omega (arith, redo_few (gathered size (slot_of d (other older)) 480))))
 
   abbrev pub all_done : Device
   all_done = (run (write_all_io redone) d).device
 
   -- to the end: all writes are done, and a sync
-  pub redo_run : run (redo_io older (scanned size (slot_of d older) 480) (scanned size (slot_of d (other older)) 480)) d ≡ record { value = tt; device = synced all_done }
+  pub redo_run : run (redo_io older (gathered size (slot_of d older) 480) (gathered size (slot_of d (other older)) 480)) d ≡ record { value = tt; device = synced all_done }
   unfolding redo_io run
   redo_run =
-      run_then (replay_from (base older) 0 (redo_count (scanned size (slot_of d older) 480))) (λ _. then' (replay_from (base (other older)) 0 (redo_count (scanned size (slot_of d (other older)) 480))) (λ _. settle_io)) d
-      ∙ ap (λ (x : Ran (Unit {0})). run (then' (replay_from (base (other older)) 0 (redo_count (scanned size (slot_of d (other older)) 480))) (λ _. settle_io)) x.device) one_run
-      ∙ run_then (replay_from (base (other older)) 0 (redo_count (scanned size (slot_of d (other older)) 480))) (λ _. settle_io) first
+      run_then (replay_from (base older) 0 (redo_count (gathered size (slot_of d older) 480))) (λ _. then' (replay_from (base (other older)) 0 (redo_count (gathered size (slot_of d (other older)) 480))) (λ _. settle_io)) d
+      ∙ ap (λ (x : Ran (Unit {0})). run (then' (replay_from (base (other older)) 0 (redo_count (gathered size (slot_of d (other older)) 480))) (λ _. settle_io)) x.device) one_run
+      ∙ run_then (replay_from (base (other older)) 0 (redo_count (gathered size (slot_of d (other older)) 480))) (λ _. settle_io) first
       ∙ ap (λ (x : Ran (Unit {0})). record { value = tt; device = synced x.device }) two_run
       ∙ ap (λ (x : Ran (Unit {0})). record { value = tt; device = synced x.device }) (sym (all_append (writes_in size (slot_of d older)) (writes_in size (slot_of d (other older))) d))
 
   -- cut: some of the writes are done, or all, and synced
-  pub redo_upto : (e : Device) → Upto (redo_io older (scanned size (slot_of d older) 480) (scanned size (slot_of d (other older)) 480)) d e → Upto (write_all_io redone) d e ⊎ (e ≡ synced all_done)
+  pub redo_upto : (e : Device) → Upto (redo_io older (gathered size (slot_of d older) 480) (gathered size (slot_of d (other older)) 480)) d e → Upto (write_all_io redone) d e ⊎ (e ≡ synced all_done)
   unfolding redo_io run
   redo_upto e u =
-      elim (upto_then (replay_from (base older) 0 (redo_count (scanned size (slot_of d older) 480))) (λ _. then' (replay_from (base (other older)) 0 (redo_count (scanned size (slot_of d (other older)) 480))) (λ _. settle_io)) d e u) [
-        | inl v ↦ inl (upto_front (writes_in size (slot_of d older)) (writes_in size (slot_of d (other older))) d e (replay_upto size (base older) (slot_of d older) 0 _ d e (room older (scanned size (slot_of d older) 480)) (found_in_area size most (slot_of d older) (ours older)) (λ q l. refl) v))
-        | inr v ↦ later (subst (λ (x : Ran (Unit {0})). Upto (then' (replay_from (base (other older)) 0 (redo_count (scanned size (slot_of d (other older)) 480))) (λ _. settle_io)) x.device e) one_run v)
+      elim (upto_then (replay_from (base older) 0 (redo_count (gathered size (slot_of d older) 480))) (λ _. then' (replay_from (base (other older)) 0 (redo_count (gathered size (slot_of d (other older)) 480))) (λ _. settle_io)) d e u) [
+        | inl v ↦ inl (upto_front (writes_in size (slot_of d older)) (writes_in size (slot_of d (other older))) d e (replay_upto size (base older) (slot_of d older) 0 _ d e (slot_room older (gathered size (slot_of d older) 480)) (found_in_area size most (slot_of d older) (ours older)) (λ q l. refl) v))
+        | inr v ↦ later (subst (λ (x : Ran (Unit {0})). Upto (then' (replay_from (base (other older)) 0 (redo_count (gathered size (slot_of d (other older)) 480))) (λ _. settle_io)) x.device e) one_run v)
       ]
     where
-      room : (slot : Slot) (s : Scan) → base slot + 2 * (0 + redo_count s) ≤ 960
-      room First s = omega (arith, redo_few s)
-      room Second s = omega (arith, redo_few s)
-
       ended : (x f : Device) → x ≡ all_done → Upto settle_io x f → Upto (write_all_io redone) d f ⊎ (f ≡ synced all_done)
       ended x f q here = inl (subst (λ (y : Device). Upto (write_all_io redone) d y) (sym q) (all_upto redone d))
       ended x f q (syncs here) = inr (ap synced q)
 
-      later : Upto (then' (replay_from (base (other older)) 0 (redo_count (scanned size (slot_of d (other older)) 480))) (λ _. settle_io)) first e → Upto (write_all_io redone) d e ⊎ (e ≡ synced all_done)
+      later : Upto (then' (replay_from (base (other older)) 0 (redo_count (gathered size (slot_of d (other older)) 480))) (λ _. settle_io)) first e → Upto (write_all_io redone) d e ⊎ (e ≡ synced all_done)
       later v =
-          elim (upto_then (replay_from (base (other older)) 0 (redo_count (scanned size (slot_of d (other older)) 480))) (λ _. settle_io) first e v) [
-            | inl z ↦ inl (upto_behind (writes_in size (slot_of d older)) (writes_in size (slot_of d (other older))) d e (replay_upto size (base (other older)) (slot_of d (other older)) 0 _ first e (room (other older) (scanned size (slot_of d (other older)) 480)) (found_in_area size most (slot_of d (other older)) (ours (other older))) (λ q l. same_after q (omega (arith, redo_few (scanned size (slot_of d (other older)) 480)))) z))
-            | inr z ↦ ended (run (replay_from (base (other older)) 0 (redo_count (scanned size (slot_of d (other older)) 480))) first).device e (ap (λ (x : Ran (Unit {0})). x.device) (two_run ∙ sym (all_append (writes_in size (slot_of d older)) (writes_in size (slot_of d (other older))) d))) z
+          elim (upto_then (replay_from (base (other older)) 0 (redo_count (gathered size (slot_of d (other older)) 480))) (λ _. settle_io) first e v) [
+            | inl z ↦ inl (upto_behind (writes_in size (slot_of d older)) (writes_in size (slot_of d (other older))) d e (replay_upto size (base (other older)) (slot_of d (other older)) 0 _ first e (slot_room (other older) (gathered size (slot_of d (other older)) 480)) (found_in_area size most (slot_of d (other older)) (ours (other older))) (λ q l. same_after q (omega (arith, redo_few (gathered size (slot_of d (other older)) 480)))) z))
+            | inr z ↦ ended (run (replay_from (base (other older)) 0 (redo_count (gathered size (slot_of d (other older)) 480))) first).device e (ap (λ (x : Ran (Unit {0})). x.device) (two_run ∙ sym (all_append (writes_in size (slot_of d older)) (writes_in size (slot_of d (other older))) d))) z
           ]

@@ -1,5 +1,6 @@
 -- What a sector of the journal is found to be: blank sectors and parts of records as they were written.
 use Rattle.std.proofs.Common.{◌≡◌, ℕ, zero, suc, ◌/◌, ◌%◌, ◌^◌, ◌<◌, ◌≤◌, Bool, true, false, cond, ◌&&◌, T, eqb, ltb, leb, List, [], ◌∷◌, ◌++◌, length, get_or, take, replicate, sym, refl, ap, ◌∙◌, subst, arith, length-append, ltb-true, lt-ltb, eq-eqb, eqb-true, le-leb, leb-true, Ok, Err, Some, None}
+use Rattle.std.proofs.lemmas.Bool.{and_parts}
 use Rattle.std.proofs.lemmas.List.{take_at, drop_at}
 use Rattle.disks.specs.Device.{zeros, all_bytes}
 use Rattle.octets.specs.Numbers.{field, numbers_bytes, small, bytes_of}
@@ -7,7 +8,6 @@ use Rattle.octets.proofs.Numbers.{join}
 use Rattle.octets.proofs.Fields.{field_at, length-numbers}
 use Rattle.journal.specs.Format.{mark, slot_sectors, guarded, numbers_end, part_bytes, part_of, half_of, is_sound, found, foreign}
 use Rattle.journal.specs.declared.part.Part.{Part}
-use Rattle.recovery.proofs.Tests.{both_so}
 
 pub found_blank : (size i : ℕ) → found size i (zeros 512) ≡ Ok None
 unfolding found zeros
@@ -25,16 +25,16 @@ pub record Sound (size i : ℕ) (p : Part) : Type 0 where
   pub within : p.target.0 < size
 
 four : (a b c d : Bool) → a && b && c && d ≡ true → (a ≡ true) × (b ≡ true) × (c ≡ true) × (d ≡ true)
-four a b c d h = let x = both_so (a && b && c) d h in let y = both_so (a && b) c x.0 in let z = both_so a b y.0 in (z.0, z.1, y.1, x.1)
+four a b c d h = let x = and_parts (a && b && c) d h in let y = and_parts (a && b) c x.0 in let z = and_parts a b y.0 in (z.0, z.1, y.1, x.1)
 
 pub sound_is : (size i : ℕ) (p : Part) → is_sound size i p ≡ true → Sound size i p
 unfolding is_sound
 sound_is size i p h =
     let a = four (leb 1 p.number && ltb p.number numbers_end) (eqb p.index i) (ltb i p.length && leb p.length slot_sectors && eqb (p.length % 2) 0) (leb guarded p.target.0 && ltb p.target.0 size) h in
-    let n = both_so (leb 1 p.number) (ltb p.number numbers_end) a.0 in
-    let l = both_so (ltb i p.length && leb p.length slot_sectors) (eqb (p.length % 2) 0) a.2 in
-    let m = both_so (ltb i p.length) (leb p.length slot_sectors) l.0 in
-    let t = both_so (leb guarded p.target.0) (ltb p.target.0 size) a.3 in
+    let n = and_parts (leb 1 p.number) (ltb p.number numbers_end) a.0 in
+    let l = and_parts (ltb i p.length && leb p.length slot_sectors) (eqb (p.length % 2) 0) a.2 in
+    let m = and_parts (ltb i p.length) (leb p.length slot_sectors) l.0 in
+    let t = and_parts (leb guarded p.target.0) (ltb p.target.0 size) a.3 in
     record {
       some = leb-true 1 p.number n.0;
       below = ltb-true p.number numbers_end n.1;

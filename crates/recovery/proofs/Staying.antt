@@ -5,7 +5,7 @@ use Rattle.disks.specs.Device.{Device, Io, answer, read, write, sync, run, Ran, 
 use Rattle.compose.proofs.Inside.{fair_then}
 use Rattle.octets.proofs.Fields.{bytes_take, bytes_drop}
 use Rattle.journal.specs.Format.{part_of, half_of}
-use Rattle.journal.specs.Scans.{scan_start, scan_next, scanned, redo_count, write_at, writes_from}
+use Rattle.journal.specs.Scans.{Scanned, scan_start, scan_on, redo_count, write_at, writes_from}
 use Rattle.journal.specs.Programs.{base, other, in_area, all_in_area, allowed, write_all_io, record_from, record_of, transact_io, put_io, Put', get_io, after_put, scan_from, scan_io, replay_from, redo_io, recover_io, open_io, ready, Opened}
 use Rattle.recovery.specs.Machines.{Call, Get, Put, Reply, No, put_reply, whole_sectors, call_io, Array, array, JournalWithin}
 use Rattle.journal.specs.declared.state.Refused.TheVariants.{OutOfRange, NumbersUsedUp}
@@ -15,15 +15,17 @@ use Rattle.journal.specs.declared.state.Write.{Write}
 use Rattle.journal.specs.declared.state.Slot.{Slot}
 use Rattle.journal.specs.declared.state.Slot.TheVariants.{First, Second}
 use Rattle.journal.specs.declared.state.Journal.{Journal}
+use Rattle.recovery.proofs.Scanning.{gathered}
 use Rattle.recovery.proofs.Sound.{bytes-append}
 use Rattle.recovery.proofs.Records.{sector-bytes}
-use Rattle.recovery.proofs.Redoing.{slot_of, found_in_area, redo_few, one_run, same_after, apart_from, further}
+use Rattle.recovery.proofs.Redoing.{slot_of, slot_room, found_in_area, redo_few, one_run, same_after, apart_from, further}
 use Rattle.recovery.proofs.Mixing.{writes_in}
 use Rattle.recovery.proofs.Inv.{IsSector, Off, On}
 use Rattle.recovery.proofs.Opening.{scan_is, recover_is, which}
 use Rattle.recovery.proofs.Calls.{fine}
 use Rattle.recovery.proofs.Keeping.{held, Inv}
-use Rattle.recovery.proofs.Tests.{both, is_so}
+use Rattle.octets.proofs.Numbers.{both}
+use Rattle.recovery.proofs.Tests.{is_so}
 
 -- what each write of a list must be
 pub data Good (size : ℕ) : List Write → Type 0 where
@@ -51,10 +53,10 @@ good_record size at n ws some below few area whole fits i zero e l = nil
 good_record size at n ws some below few area whole fits i (suc k) e l = more (omega arith) (sector-bytes size n ws some below few area whole fits i (omega arith)) (good_record size at n ws some below few area whole fits (i + 1) k (omega arith) l)
 
 -- scans
-fair_scan : (size at i k : ℕ) (s : Scan) (d : Device) → at + (i + k) ≤ size → Fair size (scan_from size at i k s) d
+fair_scan : (size at i k : ℕ) (s : Scanned) (d : Device) → at + (i + k) ≤ size → Fair size (scan_from size at i k s) d
 unfolding scan_from
 fair_scan size at i zero s d l = Fair.ends s d
-fair_scan size at i (suc k) s d l = Fair.reads (omega arith) (fair_scan size at (i + 1) k (scan_next size i (shown d (at + i)) s) d (omega arith))
+fair_scan size at i (suc k) s d l = Fair.reads (omega arith) (fair_scan size at (i + 1) k (scan_on size i (shown d (at + i)) s) d (omega arith))
 
 -- halves make a sector
 halves : (a b : List ℕ) → IsSector a → IsSector b → IsSector (half_of a ++ half_of b)
@@ -83,33 +85,29 @@ module _ (size at : ℕ) (g : ℕ → List ℕ) (large : 960 ≤ size) where
 -- OPENING
 module _ (size n : ℕ) (array : ℕ → List ℕ) (d : Device) (off' : Off size n array d) (large : 4096 ≤ size) where
   abbrev scan : Slot → Scan
-  scan slot = scanned size (slot_of d slot) 480
-
-  room : (slot : Slot) (s : Scan) → base slot + 2 * (0 + redo_count s) ≤ 960
-  room First s = omega (arith, redo_few s)
-  room Second s = omega (arith, redo_few s)
+  scan slot = gathered size (slot_of d slot) 480
 
   fair_redo : (o : Slot) → Fair size (redo_io o (scan o) (scan (other o))) d
   unfolding redo_io run
   fair_redo o =
       fair_then size (replay_from (base o) 0 (redo_count (scan o))) (λ _. then' (replay_from (base (other o)) 0 (redo_count (scan (other o)))) (λ _. sync (answer tt))) d
-      (fair_replay size (base o) (slot_of d o) (omega arith) 0 (redo_count (scan o)) d (room o (scan o)) (found_in_area size n (slot_of d o) (off'.ours o)) (λ q l. off'.bytes o q (omega (arith, redo_few (scan o)))) (λ q l. refl))
+      (fair_replay size (base o) (slot_of d o) (omega arith) 0 (redo_count (scan o)) d (slot_room o (scan o)) (found_in_area size n (slot_of d o) (off'.ours o)) (λ q l. off'.bytes o q (omega (arith, redo_few (scan o)))) (λ q l. refl))
       (subst (λ (r : Ran (Unit {0})). Fair size (then' (replay_from (base (other o)) 0 (redo_count (scan (other o)))) (λ _. sync (answer tt))) r.device) (sym (one_run size n d off'.ours o))
       (fair_then size (replay_from (base (other o)) 0 (redo_count (scan (other o)))) (λ _. sync (answer tt)) (run (write_all_io (writes_in size (slot_of d o))) d).device
-      (fair_replay size (base (other o)) (slot_of d (other o)) (omega arith) 0 (redo_count (scan (other o))) (run (write_all_io (writes_in size (slot_of d o))) d).device (room (other o) (scan (other o))) (found_in_area size n (slot_of d (other o)) (off'.ours (other o))) (λ q l. off'.bytes (other o) q (omega (arith, redo_few (scan (other o))))) (λ q l. same_after size n d off'.ours o q (omega (arith, redo_few (scan (other o))))))
+      (fair_replay size (base (other o)) (slot_of d (other o)) (omega arith) 0 (redo_count (scan (other o))) (run (write_all_io (writes_in size (slot_of d o))) d).device (slot_room (other o) (scan (other o))) (found_in_area size n (slot_of d (other o)) (off'.ours (other o))) (λ q l. off'.bytes (other o) q (omega (arith, redo_few (scan (other o))))) (λ q l. same_after size n d off'.ours o q (omega (arith, redo_few (scan (other o))))))
       (Fair.syncs (Fair.ends tt _))))
 
   fair_slot : (slot : Slot) → Fair size (scan_io size slot) d
-  fair_slot First = fair_scan size 0 0 480 scan_start d (omega arith)
-  fair_slot Second = fair_scan size 480 0 480 scan_start d (omega arith)
+  fair_slot First = fair_scan size 0 0 480 (Ok scan_start) d (omega arith)
+  fair_slot Second = fair_scan size 480 0 480 (Ok scan_start) d (omega arith)
 
   pub fair_open : Fair size (open_io size) d
   unfolding open_io run
   fair_open =
       let (o, x) = which size n array d off' in
-      let last' : Fair size (recover_io size (scan First) (scan Second)) d = subst (λ (p : Io Opened). Fair size p d) (sym (recover_is size n array d off' o x)) (fair_then size (redo_io o (scan o) (scan (other o))) (λ _. answer (Ok (ready size o (scan o) (scan (other o))))) d (fair_redo o) (Fair.ends _ _)) in
-      let second' = fair_then size (scan_io size Second) (λ b. recover_io size (scan First) b) d (fair_slot Second) (subst (λ (r : Ran Scan). Fair size (recover_io size (scan First) r.value) r.device) (sym (scan_is size n array d off' Second)) last') in
-      fair_then size (scan_io size First) (λ a. then' (scan_io size Second) (λ b. recover_io size a b)) d (fair_slot First) (subst (λ (r : Ran Scan). Fair size (then' (scan_io size Second) (λ b. recover_io size r.value b)) r.device) (sym (scan_is size n array d off' First)) second')
+      let last' : Fair size (recover_io size (Ok (scan First)) (Ok (scan Second))) d = subst (λ (p : Io Opened). Fair size p d) (sym (recover_is size n array d off' o x)) (fair_then size (redo_io o (scan o) (scan (other o))) (λ _. answer (Ok (ready size o (scan o) (scan (other o))))) d (fair_redo o) (Fair.ends _ _)) in
+      let second' = fair_then size (scan_io size Second) (λ b. recover_io size (Ok (scan First)) b) d (fair_slot Second) (subst (λ (r : Ran Scanned). Fair size (recover_io size (Ok (scan First)) r.value) r.device) (sym (scan_is size n array d off' Second)) last') in
+      fair_then size (scan_io size First) (λ a. then' (scan_io size Second) (λ b. recover_io size a b)) d (fair_slot First) (subst (λ (r : Ran Scanned). Fair size (then' (scan_io size Second) (λ b. recover_io size r.value b)) r.device) (sym (scan_is size n array d off' First)) second')
 
 -- CALLS
 module _ (size n : ℕ) (array : ℕ → List ℕ) (j : Journal) (d : Device) (o : On size n array j d) (large : 4096 ≤ size) (fits : size ≤ 1099511627776) where

@@ -1,7 +1,8 @@
 -- Sectors written one after the other: what the device shows then, and what it may hold where the writing is cut.
-use Rattle.std.proofs.Common.{◌≡◌, ℕ, Bool, true, false, cond, ◌||◌, T, eqb, ◌⊎◌, List, [], ◌∷◌, sym, refl, ap, ◌∙◌, subst, inl, inr, eqb-true}
+use Rattle.std.proofs.Common.{◌≡◌, ℕ, Bool, true, false, cond, eqb, ◌⊎◌, List, [], ◌∷◌, sym, refl, ap, ◌∙◌, subst, inl, inr, eqb-true}
 use mathlib.Core.List.Memᴰ
 use mathlib.Core.List.{Memᴰ}
+use Rattle.std.proofs.lemmas.Bool.{or_parts}
 use Rattle.disks.specs.Device.{Device, run, Upto, here, writes, shown, latest, written}
 use Rattle.journal.specs.Programs.{named, write_all_io}
 use Rattle.recovery.specs.Machines.{last}
@@ -43,21 +44,12 @@ pub record Grown (ws : List Write) (d e : Device) (s : ℕ) : Type 0 where
   pub kept : e.kept s ≡ d.kept s
   pub since : (x : List ℕ) → Memᴰ x (e.since s) → Memᴰ x (d.since s) ⊎ Among s x ws
 
--- the program that writes them, and no more
-unnamed : (s : ℕ) (w : Write) (ws : List Write) → named s (w ∷ ws) ≡ false → (eqb s w.target.0 ≡ false) × (named s ws ≡ false)
-unfolding named
-unnamed s w ws h = go (eqb s w.target.0) h
-  where
-    go : (b : Bool) → b || named s ws ≡ false → (b ≡ false) × (named s ws ≡ false)
-    go true q = absurd (subst T q tt)
-    go false q = (refl, q)
-
 -- what isn't named is left alone, wherever it is cut
 pub upto_other : (ws : List Write) (d e : Device) (s : ℕ) → named s ws ≡ false → Upto (write_all_io ws) d e → Alike d e s
-unfolding write_all_io
+unfolding write_all_io named
 upto_other [] d e s n here = alike d s
 upto_other (w ∷ ws) d e s n here = alike d s
-upto_other (w ∷ ws) d e s n (writes u) = let p = unnamed s w ws n in alike_then (written_other w.target.0 w.bytes d s p.0) (upto_other ws (written w.target.0 w.bytes d) e s p.1 u)
+upto_other (w ∷ ws) d e s n (writes u) = let p = or_parts (eqb s w.target.0) (named s ws) n in alike_then (written_other w.target.0 w.bytes d s p.0) (upto_other ws (written w.target.0 w.bytes d) e s p.1 u)
 
 pub upto_grown : (ws : List Write) (d e : Device) (s : ℕ) → Upto (write_all_io ws) d e → Grown ws d e s
 unfolding write_all_io

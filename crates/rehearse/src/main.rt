@@ -79,12 +79,11 @@ fn run(rt: &HostRuntime) -> anyhow::Result<()> {
         houses: LEAST_HOUSES,
         place,
     };
+    // A line that is not understood is reported with its number, and the next one is read.
     for (at, line) in (1u64..).zip(rt.lines(rt.alloc())) {
         match parse(rt.alloc(), line?.as_str()) {
             Ok(None) => {}
             Ok(Some(step)) => play(rt, &mut rehearsal, at, step)?,
-
-            // Reported with its number.
             Err(error) => println!(rt; "line {at}: {error}")?,
         }
     }

@@ -1,12 +1,13 @@
 // A script's lines, in words.
-ghost use Rattle.std.specs.Prelude.{IfOk, IfSome, Some};
+ghost use Rattle.std.specs.Prelude.{◌≡◌, IfOk, IfSome, Some};
 ghost use Rattle.rehearse.specs.Scripts.{InRange, error_text};
+ghost use Rattle.rehearse.specs.declared.script.ScriptError.TheVariants.{Memory};
 
 use lines::decimal::decimal;
 use lines::hex;
 use octets::SECTOR_BYTES;
 use octets::writer::{Number, message};
-use std::alloc::{AllocError, AllocFailed, Global};
+use std::alloc::{AllocError, Global};
 use std::fmt;
 use std::str::SplitWhitespace;
 use wire::kind::Kind;
@@ -50,14 +51,10 @@ impl fmt::Display for ScriptError {
 }
 
 impl From<AllocError> for ScriptError {
-    fn from(_e: AllocError) -> ScriptError {
-        ScriptError::Memory
-    }
-}
+    ghost from_gives = { λ _ r. r ≡ Memory };
 
-impl<T: Drop> From<AllocFailed<T>> for ScriptError {
-    fn from(_e: AllocFailed<T>) -> ScriptError {
-        ScriptError::Memory
+    fn from(_e: AllocError) -> ScriptError {
+        Self::Memory
     }
 }
 
@@ -67,9 +64,9 @@ pub fn parse(heap: Global, line: &str) -> Result<Option<Step>, ScriptError>
 {
     let mut words = Words {
         heap,
-        words: line.split_whitespace(),
+        left: line.split_whitespace(),
     };
-    let Some(first) = words.words.next() else {
+    let Some(first) = words.left.next() else {
         return Ok(None);
     };
     let step = match first {
@@ -80,22 +77,22 @@ pub fn parse(heap: Global, line: &str) -> Result<Option<Step>, ScriptError>
         )),
         _ => return Err(ScriptError::Unknown),
     };
-    match words.words.next() {
-        None => Ok(Some(step)),
-        Some(_) => Err(ScriptError::Unknown),
+    if words.left.next().is_some() {
+        return Err(ScriptError::Unknown);
     }
+    Ok(Some(step))
 }
 
 // What is left of a line.
 #[derive(Drop)]
 struct Words<'a> {
     heap: Global,
-    words: SplitWhitespace<'a>,
+    left: SplitWhitespace<'a>,
 }
 
 impl<'a> Words<'a> {
     fn next(&mut self) -> Result<&'a str, ScriptError> {
-        self.words.next().ok_or(ScriptError::Unknown)
+        self.left.next().ok_or(ScriptError::Unknown)
     }
 
     // The next word as a number.

@@ -104,6 +104,10 @@ pub record ServesTheMeaning : Type 0 where
 abbrev pub the_place : Address → Place
 the_place a = record { volume = a.volume.0; sector = a.sector.0 }
 
+-- The room for volumes where each house's device has so many sectors: a share of what its tables leave.
+abbrev pub room_left : ℕ → ℕ
+room_left sectors = (sectors - 2048) / 4
+
 -- the room is what the promise has for the core
 abbrev pub RoomIsCore : Type 0
-RoomIsCore = (all size : ℕ) → core_room all size ≡ (size - 2048) / 4
+RoomIsCore = (all size : ℕ) → core_room all size ≡ room_left size

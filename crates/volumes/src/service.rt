@@ -1,10 +1,10 @@
 // What each call does.
-ghost use Rattle.std.specs.Prelude.{◌≡◌, ◌+◌, ◌-◌, ◌/◌, ◌^◌, ◌<◌, not, ◌&&◌, [], None, IfOk, MatchResult, nat_lt};
+ghost use Rattle.std.specs.Prelude.{◌≡◌, ◌+◌, ◌^◌, ◌<◌, not, ◌&&◌, [], None, IfOk, MatchResult, nat_lt};
 ghost use Rattle.disks.specs.Disks.{find};
 ghost use Rattle.wire.specs.Refusals.{refusal_number};
 ghost use Rattle.wire.specs.declared.refusal.Refusal.TheVariants.{Missing};
 ghost use Rattle.volumes.specs.Service.{blank_service, the_service, the_served, First, Holds, HeldBack, is_head, makes_head, attaches_volume, reads_volume, writes_volume, syncs_volume, drops_volume, recount, lacks_call, serves, DoesAs};
-ghost use Rattle.volumes.specs.Simulation.{needed, the_place, ServesTheMeaning, RoomIsCore};
+ghost use Rattle.volumes.specs.Simulation.{needed, the_place, ServesTheMeaning, room_left, RoomIsCore};
 ghost use Rattle.wire.specs.Calls.{the_call};
 ghost use Rattle.std.specs.Option.{option_map};
 ghost use Rattle.std.specs.List.{position_from};
@@ -23,11 +23,11 @@ use wire::refusal::Refusal;
 // How many volumes there may be.
 const MOST_VOLUMES: usize = 4096;
 
-// The largest size of a volume, 2^40.
-const MOST_SIZE: Size = Size(1_099_511_627_776);
+// The largest size of a volume.
+const MOST_SIZE: Size = Size(1 << 40);
 
 // Numbers and tokens stay below 2^62.
-const LIMIT: u64 = 4_611_686_018_427_387_904;
+const LIMIT: u64 = 1 << 62;
 
 // Of a house's device, what isn't for volumes, and which share of the rest their sectors may take: data has twice the room, and
 // directory and journal the rest.
@@ -40,7 +40,7 @@ const VOLUME_WEIGHT: u64 = 64;
 
 // The room for volumes where each house's device has so many sectors.
 pub fn room_of(sectors: u64) -> u64
-    ensures value { result ≡ (sectors - 2048) / 4 }
+    ensures value { result ≡ room_left sectors }
     ensures core { RoomIsCore }
 {
     sectors.saturating_sub(TABLE_SECTORS) / ROOM_SHARE
@@ -50,7 +50,7 @@ impl Volumes {
     // No volumes yet, with room for what a house's device of so many sectors leaves.
     // Takes memory for as many heads as there may be, so that no call needs more.
     pub fn new(heap: Global, sectors: u64) -> Result<Volumes, AllocError>
-        ensures { IfOk result (λ v. (the_service v ≡ blank_service) × (v.room ≡ (sectors - 2048) / 4)) }
+        ensures { IfOk result (λ v. (the_service v ≡ blank_service) × (v.room ≡ room_left sectors)) }
     {
         let heads = Vec::with_capacity(heap, MOST_VOLUMES)?;
         let room = room_of(sectors);
@@ -71,7 +71,7 @@ fn position(heads: &[Head], volume: Volume) -> Option<usize>
     heads.iter().position(|head| head.number == volume)
 }
 
-// The same, and the head.
+// The same, and the head. A place and not a `&mut Head`, since `drop_volume` takes the head out by its place.
 fn find(heads: &[Head], volume: Volume) -> Result<(usize, Head), Refusal>
     ensures { MatchResult result (λ p. First (is_head volume.0) heads.now p.0 p.1) (λ e. (e ≡ Missing) × (find (is_head volume.0) heads.now ≡ [])) }
 {
@@ -86,15 +86,6 @@ fn tells(answer: Answer<'_>) -> Outcome<'_>
     Outcome {
         answer,
         change: None,
-    }
-}
-
-fn address(hold: Hold, sector: Sector) -> Address
-    ensures { result ≡ record { volume = hold.volume; sector = sector } }
-{
-    Address {
-        volume: hold.volume,
-        sector,
     }
 }
 
@@ -144,7 +135,7 @@ impl Volumes {
             return Err(Refusal::UsedUp);
         }
         let token = Token(head.token.0 + 1);
-        self.heads[at] = Head { token, ..head };
+        self.heads[at].token = token;
         Ok(tells(Answer::Token(token, head.size)))
     }
 
@@ -157,10 +148,11 @@ impl Volumes {
         ensures { DoesAs (reads_volume hold.volume.0 hold.token.0 sector.0 read.now) self.old result self.new }
     {
         let (_, head) = held(self.heads.as_slice(), hold)?;
-        if sector.0 >= head.size.0 {
-            return Err(Refusal::Malformed);
+        if head.has(sector) {
+            Ok(tells(Answer::Sector(read)))
+        } else {
+            Err(Refusal::Malformed)
         }
-        Ok(tells(Answer::Sector(read)))
     }
 
     // `read` is what the sector holds before.
@@ -175,7 +167,7 @@ impl Volumes {
         ensures { DoesAs (writes_volume self.old.room hold.volume.0 hold.token.0 sector.0 read.now content.now) self.old result self.new }
     {
         let (at, head) = held(self.heads.as_slice(), hold)?;
-        if head.size.0 <= sector.0 {
+        if !head.has(sector) {
             return Err(Refusal::Malformed);
         }
         let was = is_blank(read);
@@ -185,10 +177,10 @@ impl Volumes {
         }
         let used = recounted(head.used, was, now);
         self.weight = self.weight - head.used + used;
-        self.heads[at] = Head { used, ..head };
+        self.heads[at].used = used;
         Ok(Outcome {
             answer: Answer::Yes,
-            change: Some(Change::Put(address(hold, sector), content)),
+            change: Some(Change::Put(hold.at(sector), content)),
         })
     }
 
@@ -235,13 +227,14 @@ fn recounted(used: u64, was: bool, now: bool) -> u64
 
 impl Volumes {
     // What a call answers, and what becomes of sectors. `read` is what the sector holds that the call needs, as `needs` says.
-    // At most linear in the number of volumes; allocates nothing. The two stay parameters: a struct of them would be made for this call alone.
+    // At most linear in the number of volumes; allocates nothing. `call` and `read` stay two parameters: a struct of them would be made for this call alone.
     #[tactic(auto, using(crate::proofs::Alike::serves_the_meaning))]
     pub fn exec<'a>(&mut self, call: Call<'a>, read: &'a [u8; SECTOR_BYTES]) -> Outcome<'a>
         ensures served { the_served result self.new ≡ serves self.old.room (the_call call.entry) read.now (the_service self.old) }
         ensures same { self.new.room ≡ self.old.room }
         ensures means { ServesTheMeaning }
     {
+        // Not `unwrap_or_else`: the borrow check covers no closure whose result names a lifetime that it doesn't capture.
         match self.serve(call, read) {
             Ok(outcome) => outcome,
             Err(refusal) => tells(Answer::Refused(refusal)),
@@ -286,7 +279,7 @@ pub fn needs(call: &Call) -> Option<Address>
     ensures { option_map the_place result ≡ needed (the_call call.now) }
 {
     match *call {
-        Call::Read(hold, sector) | Call::Write(hold, sector, _) => Some(address(hold, sector)),
+        Call::Read(hold, sector) | Call::Write(hold, sector, _) => Some(hold.at(sector)),
         _ => None,
     }
 }

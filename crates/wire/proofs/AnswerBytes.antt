@@ -5,8 +5,10 @@ use Rattle.std.proofs.lemmas.Bool.Decides.{nat_tests}
 use Rattle.std.specs.Option.{option_map}
 use Rattle.disks.specs.Device.{all_bytes}
 use Rattle.disks.specs.Disks.{Reply, No, Yes, Num, Token, Sector, Full}
+use Rattle.wire.specs.declared.case.Case.{Case}
 use Rattle.wire.specs.declared.refusal.Refusal.{Refusal}
 use Rattle.octets.specs.Numbers.{field, numbers_bytes, small}
+use Rattle.wire.specs.Cases.{case_number, case_of}
 use Rattle.wire.specs.Refusals.{refusal_number, refusal_of}
 use Rattle.wire.specs.Answers.{answer_bytes, answered_as, refused_by, of_length}
 use Rattle.wire.specs.Promises.{Said, AnswerRoundTrip, AnswerOneSpelling, AnswerBytesSound}
@@ -16,6 +18,14 @@ use Rattle.octets.proofs.Fields.{length-numbers, field_at, fields-small, exact}
 -- the number of a refusal that was found is the number that it was found by
 number_back : (n : ℕ) (e : Refusal) → refusal_of n ≡ Some e → refusal_number e ≡ n
 number_back n e h = grind (arith, nat_tests)
+
+-- and the number of a case that was found likewise
+pub case_back : (n : ℕ) (c : Case) → case_of n ≡ Some c → case_number c ≡ n
+case_back n c h = grind (arith, nat_tests)
+
+-- a number without a case answers nothing
+pub caseless : (n : ℕ) (bs : List ℕ) → case_of n ≡ None → answered_as n bs ≡ None
+caseless n bs h = grind (arith, nat_tests)
 
 field_alone : (i : ℕ) (ns : List ℕ) → T (small ns) → i < length ns → field i (numbers_bytes ns) ≡ get_or ns i 0
 field_alone i ns h l = ap (field i) (sym (append-nil (numbers_bytes ns))) ∙ field_at i ns [] h l

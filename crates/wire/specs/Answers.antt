@@ -5,8 +5,11 @@ use Rattle.std.specs.Option.{option_map}
 use Rattle.disks.specs.Disks.{Reply, No, Yes, Num, Token, Sector, Full}
 use Rattle.wire.specs.declared.answer.Answer.{Answer}
 use Rattle.wire.specs.declared.answer.Answer.TheVariants as typed
+use Rattle.wire.specs.declared.case.Case.{Case}
+use Rattle.wire.specs.declared.case.Case.TheVariants as cases
 use Rattle.wire.specs.declared.refusal.Refusal.{Refusal}
 use Rattle.octets.specs.Numbers.{field, numbers_bytes}
+use Rattle.wire.specs.Cases.{case_number}
 use Rattle.wire.specs.Refusals.{refusal_number, refusal_of}
 
 -- the reply of the meaning that the code's value stands for
@@ -18,14 +21,17 @@ the_reply (typed.Token t z) = Token t.0 z.0
 the_reply (typed.Sector b) = Sector b.now
 the_reply typed.Full = Full
 
+abbrev pub case_for : Reply → Case
+case_for (No k) = cases.Refused
+case_for Yes = cases.Yes
+case_for (Num n) = cases.Number
+case_for (Token t z) = cases.Token
+case_for (Sector b) = cases.Sector
+case_for Full = cases.Full
+
 -- the number of each case
 abbrev pub answer_number : Reply → ℕ
-answer_number (No k) = 0
-answer_number Yes = 1
-answer_number (Num n) = 2
-answer_number (Token t z) = 3
-answer_number (Sector b) = 4
-answer_number Full = 5
+answer_number r = case_number (case_for r)
 
 -- and the bytes of its values
 abbrev pub values_of : Reply → List ℕ

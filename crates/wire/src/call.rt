@@ -1,5 +1,6 @@
 // A customer's call, and its bytes.
-ghost use Rattle.std.specs.Prelude.{◌≡◌, IfOk};
+ghost use Rattle.std.specs.Prelude.{◌≡◌, ◌≢◌, length, IfOk, MatchOption};
+ghost use Rattle.octets.specs.Numbers.{field};
 ghost use Rattle.wire.specs.Calls.{the_call, call_bytes, decoded, outcome, kind_for, parsed, parsed_as};
 ghost use Rattle.wire.specs.Kinds.{is_built};
 ghost use Rattle.wire.specs.Promises.{CallBytesSound};
@@ -9,7 +10,7 @@ use crate::number::*;
 use crate::refusal::Refusal;
 use octets::SECTOR_BYTES;
 use octets::reader::*;
-use octets::writer::*;
+use octets::writer::message;
 use std::alloc::{AllocError, Global};
 
 #[derive(Clone, Copy)]
@@ -82,13 +83,12 @@ impl<'a> Call<'a> {
     }
 }
 
-const fn hold(volume: u64, token: u64) -> Hold
-    ensures { result ≡ record { volume = record { 0 = volume }; token = record { 0 = token } } }
+// The volume and the token that these bytes are.
+fn held(bytes: &[u8]) -> Option<Hold>
+    ensures { MatchOption result (length bytes.now ≢ 16) (λ h. (length bytes.now ≡ 16) × (h ≡ record { volume = record { 0 = field 0 bytes.now }; token = record { 0 = field 1 bytes.now } })) }
 {
-    Hold {
-        volume: Volume(volume),
-        token: Token(token),
-    }
+    let [volume, token] = exactly::<2>(bytes)?;
+    Some(Hold::new(volume, token))
 }
 
 // The call of this kind that the bytes behind it spell.
@@ -106,29 +106,20 @@ fn parse<'a>(kind: Kind, bytes: &'a [u8]) -> Option<Call<'a>>
         }
         Kind::Read => {
             let [volume, token, sector] = exactly::<3>(bytes)?;
-            Some(Call::Read(hold(volume, token), Sector(sector)))
+            Some(Call::Read(Hold::new(volume, token), Sector(sector)))
         }
         Kind::Write => {
             let ([volume, token, at], rest) = numbers::<3>(bytes)?;
             let content = sector(rest)?;
-            Some(Call::Write(hold(volume, token), Sector(at), content))
+            Some(Call::Write(Hold::new(volume, token), Sector(at), content))
         }
-        Kind::Sync => {
-            let [volume, token] = exactly::<2>(bytes)?;
-            Some(Call::Sync(hold(volume, token)))
-        }
-        Kind::Picture => {
-            let [volume, token] = exactly::<2>(bytes)?;
-            Some(Call::Picture(hold(volume, token)))
-        }
+        Kind::Sync => Some(Call::Sync(held(bytes)?)),
+        Kind::Picture => Some(Call::Picture(held(bytes)?)),
         Kind::Copy => {
             let [picture] = exactly::<1>(bytes)?;
             Some(Call::Copy(Picture(picture)))
         }
-        Kind::Drop => {
-            let [volume, token] = exactly::<2>(bytes)?;
-            Some(Call::Drop(hold(volume, token)))
-        }
+        Kind::Drop => Some(Call::Drop(held(bytes)?)),
         Kind::DropPicture => {
             let [picture] = exactly::<1>(bytes)?;
             Some(Call::DropPicture(Picture(picture)))

@@ -5,7 +5,7 @@ ghost use Rattle.std.specs.Option.{ok_or};
 
 use crate::number::Unknown;
 
-// The kinds with their numbers.
+// The kinds with their numbers. `Case` and `Refusal` are tables of the same shape; each is read by its own rows, since no macro may write an impl.
 #[derive(Clone, Copy, PartialEq, Eq)]
 pub enum Kind {
     Make = 1,

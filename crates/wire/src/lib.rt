@@ -3,6 +3,7 @@
 
 pub mod answer;
 pub mod call;
+pub mod case;
 pub mod frame;
 pub mod kind;
 pub mod number;

@@ -16,7 +16,6 @@ loop-slot-preserved c =
     let e = c.in_ok-n.ensures in
     let further : 8 * i + 8 ≡ 8 * (i + 1) = omega arith in
     record {
-      read = one_more i _ c.args.bytes.now c.loop-slot.out c.loop-slot.rest.now (omega (arith, c.loop-slot.auto.out, c.loop-slot-test.true)) held.read held.rest e.0;
-      rest = e.1 ∙ ap (drop 8) held.rest ∙ drop-drop 8 (8 * i) _ ∙ ap (λ (k : ℕ). drop k c.args.bytes.now) further;
-      left = omega (arith, e.2, held.left);
+      read = one_more i _ c.args.bytes.now c.loop-slot.out c.loop-slot.rest.now (omega (arith, c.loop-slot.auto.out, c.loop-slot-test.true)) held.read held.behind.0 e.0;
+      behind = (e.1.0 ∙ ap (drop 8) held.behind.0 ∙ drop-drop 8 (8 * i) _ ∙ ap (λ (k : ℕ). drop k c.args.bytes.now) further, omega (arith, e.1.1, held.behind.1));
     }

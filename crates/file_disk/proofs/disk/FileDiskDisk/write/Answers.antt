@@ -4,9 +4,6 @@ use Rattle.file_disk.specs.declared.disk.FileDisk.{FileDisk}
 use Rattle.file_disk.proofs.Broken.{by_done, took_then_broke}
 use Rattle.file_disk.proofs.disk.FileDiskDisk.write.Goals as goal
 
-pub returns-in_err-place-clause-does : goal.returns-in_err-place-clause-does
-returns-in_err-place-clause-does g c = search (rules, disks, failed)
-
 pub returns-clause-does : goal.returns-clause-does
 returns-clause-does g c =
     let m : FileDisk g.row.F.Denot = record { file = c.write_at-done.new.self; broken = c.start.new.self.broken } in
