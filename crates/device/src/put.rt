@@ -11,7 +11,9 @@ use journal::state::{Journal, Refused, Write, is_allowed};
 use journal::{NUMBERS_END, Place};
 use octets::BLANK_SECTOR;
 
-// Writes one part of the record that begins at this sector, with this half of its target's bytes.
+// Writes one part of the record that begins at this sector, with this half of its target's bytes. The disk and the sector stay two
+// parameters, here, in `write_record` and in `replay`, each with a bound of its own on what is counted from there: a struct would lend the
+// disk with a sector that only the call knows.
 fn write_part<D: Disk>(
     disk: &mut D,
     at: u64,

@@ -52,6 +52,7 @@ pub(crate) fn recover<D: Disk>(
 ) -> Result<Journal, Failed<Foreign>>
     ensures { Does D.did (recover_io size a b) disk.old (told result) disk.new }
 {
+    // A pattern for both, since `Failed<E>` can't be made from any `E` beside `Fault`, and `map_err` for each would be no shorter.
     let (Ok(a), Ok(b)) = (a, b) else {
         return Err(Failed::Refused(Foreign));
     };

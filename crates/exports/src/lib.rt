@@ -180,7 +180,7 @@ fn encoded_call(heap: Global, kind: u8, numbers: [u64; 3], content: &[u8]) -> Op
     call_from(kind, numbers, content).encode(heap).ok()
 }
 
-// Puts a call's bytes at the front of `out`, and says how many; 0 for no such kind, content that is no sector, or no room. The C interface passes a call's parts one by one.
+// Puts a call's bytes at the front of `out`, and says how many; 0 for no such kind, content that is no sector, or no room. The C interface passes the parts of a call or an answer one by one.
 #[unsafe(no_mangle)]
 pub extern "C" fn wire_put_call(
     heap: Global,

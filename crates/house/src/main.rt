@@ -110,12 +110,13 @@ fn obey<W: Write>(
             &respond(customer, call.as_slice()),
         ),
         Ok(Line::From(_, _) | Line::Tick) => Ok(()),
-        Err(_) => writeln!(out, "refused 1"),
+        Err(_) => writeln!(out, "refused {}", u8::from(Refusal::Malformed)),
     }
 }
 
 fn run(rt: &HostRuntime) -> anyhow::Result<()> {
     let place = named(rt)?;
+    // As `device_bench` opens it: a crate below both for this chain alone would be no plainer.
     let _device = OpenOptions::new()
         .read(true)
         .write(true)

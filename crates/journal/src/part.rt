@@ -66,7 +66,7 @@ impl Part {
 
     // The part that this sector holds, if it isn't blank, at this index of a slot, on a device of so many sectors.
     // size and index stay two numbers, here, in `is_sound` and in `Scan::next`: the size is one for all the device, the index another for
-    // each sector, so that a struct of both would be made and taken apart at each sector, and no function would read it whole.
+    // each sector, so that a struct of both would be made anew at each sector.
     #[tactic(auto, using(crate::proofs::Sectors::finding))]
     pub fn found(
         size: u64,

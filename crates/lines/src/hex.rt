@@ -39,14 +39,6 @@ pub fn decode(heap: Global, text: &[u8]) -> Result<Option<Vec<u8>>, AllocError>
     Ok(Some(out))
 }
 
-// The digit for a number below 16.
-fn digit(n: u8) -> u8
-    requires { n < 16 }
-    ensures { result ≡ digit_for n }
-{
-    if n < 10 { b'0' + n } else { b'a' + (n - 10) }
-}
-
 // The digits that spell these bytes, in lower case.
 #[tactic(auto, using(crate::proofs::Steps::hex_round_trip))]
 pub fn encode(heap: Global, bytes: &[u8]) -> Result<Vec<u8>, AllocError>
@@ -66,8 +58,8 @@ impl fmt::Display for Hex<'_> {
     fn fmt<W: fmt::Write>(&self, f: &mut fmt::Formatter<W>) -> fmt::Result {
         // Tried as `{b:02x}`: `loop-b-preserved` stayed open, since it asks what padding makes of each byte's digits.
         for b in self.0 {
-            f.write_char(char::from(digit(*b / 16)))?;
-            f.write_char(char::from(digit(*b % 16)))?;
+            f.write_char(char::from_digit(u32::from(*b / 16), 16).unwrap())?;
+            f.write_char(char::from_digit(u32::from(*b % 16), 16).unwrap())?;
         }
         Ok(())
     }

@@ -20,7 +20,8 @@ pub enum Line {
     Tick,
 }
 
-// Why a line is not taken. One enum: an error with a type parameter for its cause would want a type of its own for each cause, and as many `From`.
+// Why a line is not taken. An enum of its own: an error with a type parameter for the other cause would want a unit struct for it, and two
+// names in each match in place of one.
 #[derive(Clone, Copy, PartialEq, Eq)]
 pub enum LineError {
     Malformed,

@@ -10,7 +10,7 @@ use std::alloc::{AllocError, Global};
 use std::collections::BTreeMap;
 use wire::number::*;
 
-// The sectors of one volume. Both maps go by plain numbers: keys of types of their own would want an order with its laws for these maps alone.
+// The sectors of one volume, by their numbers.
 pub(crate) type Written = BTreeMap<u64, Box<[u8; SECTOR_BYTES]>>;
 
 #[derive(Drop)]

@@ -32,7 +32,8 @@ pub enum Step {
     Network,
 }
 
-// Why a line tells no step. An enum of its own, since what is printed goes by the cause.
+// Why a line tells no step. `LineError` would be no plainer: what a rehearsal prints of its lines would stand in the crate of a house's
+// lines, which prints nothing.
 #[derive(Clone, Copy)]
 pub enum ScriptError {
     Unknown,
@@ -71,7 +72,7 @@ pub fn parse(heap: Global, line: &str) -> Result<Option<Step>, ScriptError>
     };
     let step = match first {
         "houses" => words.houses()?,
-        "at" => words.at()?,
+        "at" => Step::At(words.number()?, words.call()?),
         "pass" | "lose" | "twice" | "tick" | "cut" | "up" | "seed" => return Ok(Some(
             Step::Network,
         )),
@@ -109,12 +110,6 @@ impl<'a> Words<'a> {
             ),
             _ => Err(ScriptError::Unknown),
         }
-    }
-
-    fn at(&mut self) -> Result<Step, ScriptError>
-        ensures { IfOk result InRange }
-    {
-        Ok(Step::At(self.number()?, self.call()?))
     }
 
     // The call that the next words tell, as bytes.

@@ -234,7 +234,7 @@ impl Volumes {
         ensures same { self.new.room ≡ self.old.room }
         ensures means { ServesTheMeaning }
     {
-        // Not `unwrap_or_else`: the borrow check covers no closure whose result names a lifetime that it doesn't capture.
+        // Tried with `unwrap_or_else`: the borrow check covers no closure whose result names a lifetime that it doesn't capture.
         match self.serve(call, read) {
             Ok(outcome) => outcome,
             Err(refusal) => tells(Answer::Refused(refusal)),

@@ -24,8 +24,8 @@ pub enum NoFrame {
     Broken,
 }
 
-// Why no frame can be made. This and the errors of the same shape in crates above stay enums of their own: one error with a type for the
-// other cause would be no plainer, since it would want a unit struct for each cause and a second `From`.
+// Why no frame can be made. This and the errors of the same shape in crates above stay enums of their own: one error with a type parameter
+// for the other cause would want a unit struct for it, and two names in each match in place of one.
 #[derive(Clone, Copy, PartialEq, Eq)]
 pub enum FrameError {
     // its length does not fit 4 bytes
