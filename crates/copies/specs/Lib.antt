@@ -1,0 +1,5 @@
+pub mod Service
+pub mod Messages
+pub mod Copy
+pub mod House
+pub mod Promise
