@@ -1,0 +1,17 @@
+pub mod Lists
+pub mod Replay
+pub mod Line
+pub mod Good
+pub mod Grow
+pub mod Move
+pub mod Micro
+pub mod Events
+pub mod Alive
+pub mod Pending
+pub mod Busy
+pub mod Turns
+pub mod Stage
+pub mod Help
+pub mod Runs
+pub mod Open
+pub mod Answered
