@@ -7,7 +7,7 @@ use native.Mathlib.Decide.{ℕ_discrete}
 use Rattle.std.proofs.lemmas.Bool.Decides.{nat_tests}
 use Rattle.agreement.proofs.Base.{by_test, by_three}
 use Rattle.disks.specs.Cluster.{put}
-use Rattle.replicated.specs.House.{Item}
+use Rattle.copies.specs.Messages.{Item}
 
 -- x is taken out of l
 pub record Cut {A : Type 0} (x : A) (l : List A) : Type 0 where
