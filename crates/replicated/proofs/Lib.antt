@@ -4,3 +4,5 @@ pub mod Line
 pub mod Pending
 pub mod Runs
 pub mod Turns
+pub mod Posted
+pub mod Heard
