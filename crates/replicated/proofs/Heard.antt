@@ -175,10 +175,11 @@ module _ {X B O A : Type 0} where
     pub stands : Stands t u
     pub prom_is : u.agreeing.promised ≡ p
     pub says : Reaches r u.sends.status
+    pub work_is : u.work ≡ t.work
 
   pub tells_left : (r p : ℕ) (t : Turn X B O A) → t.sends.status ≡ nobody → Answering r p t (goes_on (telling r p t))
   tells_left r p t n = let k = keeps_goes (telling r p t) in
-      record { stands = stands_of k; prom_is = k.prom_is; says = k.says r (also_reaches r t.sends.status n) }
+      record { stands = stands_of k; prom_is = k.prom_is; says = k.says r (also_reaches r t.sends.status n); work_is = k.work_is }
 
   hears_behind : (r p : ℕ) (x : Status O) (t : Turn X B O A) → x.version < t.agreeing.version → hears r p x t ≡ telling r p t
   unfolding hears
@@ -273,12 +274,13 @@ module _ {X B O A : Type 0} where
   pub record Asking (r p a b : ℕ) (t u : Turn X B O A) : Type 0 where
     pub agreeing_is : u.agreeing ≡ raised p t.agreeing
     pub wants : u.sends.wants ≡ Some r
+    pub work_is : u.work ≡ t.work
 
   pub asks_left : (r : ℕ) (x : Status O) (t : Turn X B O A) (a b : ℕ) → t.memory.me < 3 → r < 3 → r ≢ t.memory.me → t.agreeing.recovery ≡ recovers a b → x.recovering ≡ false → t.agreeing.version ≤ x.version → t.memory.pass.asked ≡ false →
       Asking r (max t.agreeing.promised x.promised) a b t (goes_on (on_status r x t))
   asks_left r x t a b l k n v f q g =
       subst (λ (z : Turn X B O A). Asking r (max t.agreeing.promised x.promised) a b t (goes_on z)) (sym (on_is r x t l k n ∙ asks_is r _ x t.agreeing.recovery (noted r x t) a b v f q g))
-      (let k = keeps_goes (wanting r (passing (record t.memory.pass { asked = true }) (agreed (raised (max t.agreeing.promised x.promised) t.agreeing) (noted r x t)))) in record { agreeing_is = k.unlevel (not_level a b t.agreeing.recovery v); wants = k.wants_is })
+      (let k = keeps_goes (wanting r (passing (record t.memory.pass { asked = true }) (agreed (raised (max t.agreeing.promised x.promised) t.agreeing) (noted r x t)))) in record { agreeing_is = k.unlevel (not_level a b t.agreeing.recovery v); wants = k.wants_is; work_is = k.work_is })
 
   pub tells_is_left : (r : ℕ) (x : Status O) (t : Turn X B O A) → t.memory.me < 3 → r < 3 → r ≢ t.memory.me → t.agreeing.recovery ≡ level → x.recovering ≡ true → t.sends.status ≡ nobody → Answering r (max t.agreeing.promised x.promised) (noted r x t) (goes_on (on_status r x t))
   tells_is_left r x t l k n v f s =
@@ -290,12 +292,13 @@ module _ {X B O A : Type 0} where
     pub prom_is : u.agreeing.promised ≡ p
     pub agreeing_is : t.memory.lead ≢ suc p → u.agreeing ≡ raised p t.agreeing
     pub says : t.agreeing.promised < p → Reaches r u.sends.status
+    pub work_is : u.work ≡ t.work
 
   raising_left : (r p : ℕ) (x : Status O) (t : Turn X B O A) → t.sends.status ≡ nobody → Raised r p t (goes_on (raising r p x t))
   raising_left r p x t n =
       by_test (λ (z : Turn X B O A). Raised r p t (goes_on (agreed (raised p t.agreeing) z))) (nat_lt t.agreeing.promised p || nat_lt x.promised p)
-      (λ _. let k = keeps_goes (agreed (raised p t.agreeing) (saying_to r t)) in record { stands = stands_of k; prom_is = k.prom_is; agreeing_is = k.still; says = λ l. k.says r (also_reaches r t.sends.status n) })
-      (λ f. let k = keeps_goes (agreed (raised p t.agreeing) t) in record { stands = stands_of k; prom_is = k.prom_is; agreeing_is = k.still; says = λ l. absurd (omega (arith, l, ltb-false t.agreeing.promised p (or_false _ _ f))) })
+      (λ _. let k = keeps_goes (agreed (raised p t.agreeing) (saying_to r t)) in record { stands = stands_of k; prom_is = k.prom_is; agreeing_is = k.still; says = λ l. k.says r (also_reaches r t.sends.status n); work_is = k.work_is })
+      (λ f. let k = keeps_goes (agreed (raised p t.agreeing) t) in record { stands = stands_of k; prom_is = k.prom_is; agreeing_is = k.still; says = λ l. absurd (omega (arith, l, ltb-false t.agreeing.promised p (or_false _ _ f))); work_is = k.work_is })
 
   may_raise : (r p : ℕ) (x : Status O) (t : Turn X B O A) → p % 3 ≢ t.memory.me → may_lead r p x t ≡ raising r p x t
   unfolding may_lead
@@ -321,11 +324,12 @@ module _ {X B O A : Type 0} where
     pub lead_is : u.memory.lead ≡ suc p
     pub pend_is : (rank u.agreeing.proposal ≡ 0) ⊎ (rank u.agreeing.proposal ≡ suc u.agreeing.promised)
     pub heard : (b : Bundle O) → b.house ≢ t.memory.me → Memᴰ b t.memory.heard → Memᴰ b u.memory.heard
+    pub work_is : u.work ≡ t.work
 
   takes_left : (p : ℕ) (v : Proposal (Command O)) (t : Turn X B O A) → (v ≡ nothing → t.agreeing.proposal ≡ nothing) → Taken p t (goes_on (takes_over p v t))
   unfolding takes_over
-  takes_left p nothing t f = let k = keeps_goes (leading p (agreed (raised p t.agreeing) t)) in record { prom_is = k.prom_is; ver_is = k.ver_is; rec_is = k.rec_is; sessions_is = k.sessions_is; lead_is = k.lead_is; pend_is = k.pend_is (inl (ap rank (f refl))); heard = k.heard }
-  takes_left p (voted b c) t f = let k = keeps_goes (leading p (saying (agreed (proposed p c t.agreeing) t))) in record { prom_is = k.prom_is; ver_is = k.ver_is; rec_is = k.rec_is; sessions_is = k.sessions_is; lead_is = k.lead_is; pend_is = k.pend_is (inr refl); heard = k.heard }
+  takes_left p nothing t f = let k = keeps_goes (leading p (agreed (raised p t.agreeing) t)) in record { prom_is = k.prom_is; ver_is = k.ver_is; rec_is = k.rec_is; sessions_is = k.sessions_is; lead_is = k.lead_is; pend_is = k.pend_is (inl (ap rank (f refl))); heard = k.heard; work_is = k.work_is }
+  takes_left p (voted b c) t f = let k = keeps_goes (leading p (saying (agreed (proposed p c t.agreeing) t))) in record { prom_is = k.prom_is; ver_is = k.ver_is; rec_is = k.rec_is; sessions_is = k.sessions_is; lead_is = k.lead_is; pend_is = k.pend_is (inr refl); heard = k.heard; work_is = k.work_is }
 
   pub got_take : (r : ℕ) (x : Status O) (t : Turn X B O A) → t.memory.me < 3 → r < 3 → r ≢ t.memory.me → t.agreeing.recovery ≡ level → x.recovering ≡ false → t.agreeing.version ≡ x.version → t.agreeing.promised ≡ x.promised → x.promised % 3 ≡ t.memory.me → rank t.agreeing.proposal ≢ suc x.promised →
       Taken x.promised (noted r x t) (goes_on (on_status r x t))

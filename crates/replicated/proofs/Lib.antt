@@ -6,3 +6,4 @@ pub mod Runs
 pub mod Turns
 pub mod Posted
 pub mod Heard
+pub mod Parted
