@@ -2,8 +2,15 @@ pub mod Lists
 pub mod Replay
 pub mod Line
 pub mod Pending
+pub mod Caught
+pub mod Taken
+pub mod Good
+pub mod Grow
+pub mod Move
+pub mod Micro
 pub mod Runs
 pub mod Turns
 pub mod Posted
 pub mod Heard
 pub mod Parted
+pub mod Now

@@ -5,7 +5,7 @@ use Rattle.agreement.proofs.Base.{by_test}
 use Rattle.copies.specs.Service.{Service}
 use Rattle.copies.specs.Messages.{Item, Bundle, Command, Session, above, unused}
 use Rattle.copies.specs.Copy.{is_new}
-use Rattle.copies.specs.Promise.{Place, Played, left_by, replies, bundle_played, command_played, replay}
+use Rattle.copies.specs.Promise.{Place, left_by, Played, replies, bundle_played, command_played, replay}
 use Rattle.replicated.proofs.Lists.{each}
 
 -- (i, c) is above (j, d)
@@ -43,7 +43,8 @@ module _ {O R : Type 0} (sv : Service O R) where
   pub rises_trans : (u v w : Played sv) → Rises u v → Rises v w → Rises u w
   rises_trans u v w f g h = go (f h) (g h)
     where
-      go : Above (v.sessions h).incarnation (v.sessions h).counter (u.sessions h).incarnation (u.sessions h).counter ⊎ (v.sessions h ≡ u.sessions h) → Above (w.sessions h).incarnation (w.sessions h).counter (v.sessions h).incarnation (v.sessions h).counter ⊎ (w.sessions h ≡ v.sessions h) →
+      go : Above (v.sessions h).incarnation (v.sessions h).counter (u.sessions h).incarnation (u.sessions h).counter ⊎ (v.sessions h ≡ u.sessions h) →
+          Above (w.sessions h).incarnation (w.sessions h).counter (v.sessions h).incarnation (v.sessions h).counter ⊎ (w.sessions h ≡ v.sessions h) →
           Above (w.sessions h).incarnation (w.sessions h).counter (u.sessions h).incarnation (u.sessions h).counter ⊎ (w.sessions h ≡ u.sessions h)
       go (inl p) (inl q) = inl (above_trans q p)
       go (inl p) (inr q) = inl (subst (λ (s : Session sv.A). Above s.incarnation s.counter (u.sessions h).incarnation (u.sessions h).counter) (sym q) p)
@@ -54,8 +55,8 @@ module _ {O R : Type 0} (sv : Service O R) where
   unfolding bundle_played
   bundle_rises b v =
       by_test (Rises v) (is_new b v.sessions)
-      (λ t. each b.house _ v.sessions (λ h s. Above s.incarnation s.counter (v.sessions h).incarnation (v.sessions h).counter ⊎ (s ≡ v.sessions h)) (inl (above_true b.incarnation b.counter (v.sessions b.house).incarnation (v.sessions b.house).counter t)) (λ h _. inr refl))
-      (λ _ h. inr refl)
+      (λ t. each b.house _ v.sessions (λ h s. Above s.incarnation s.counter (v.sessions h).incarnation (v.sessions h).counter ⊎ (s ≡ v.sessions h))
+      (inl (above_true b.incarnation b.counter (v.sessions b.house).incarnation (v.sessions b.house).counter t)) (λ h _. inr refl)) (λ _ h. inr refl)
 
   pub command_rises : (k : Command O) (v : Played sv) → Rises v (command_played sv k v)
   unfolding command_played
@@ -67,21 +68,25 @@ module _ {O R : Type 0} (sv : Service O R) where
   replay_rises [] old = λ h. inr refl
   replay_rises (k ∷ newer) old = rises_trans (replay sv old) (replay sv (newer ++ old)) (replay sv (k ∷ newer ++ old)) (replay_rises newer old) (command_rises k (replay sv (newer ++ old)))
 
-  replies_length : (xs : List (Item O)) (s : Place sv) → length (replies sv xs s) ≡ length xs
+  pub replies_length : (xs : List (Item O)) (s : Place sv) → length (replies sv xs s) ≡ length xs
   unfolding replies
   replies_length [] s = refl
   replies_length (x ∷ xs) s = ap suc (replies_length xs (left_by sv x.call s))
 
   -- a session is that of a bundle
   abbrev pub Stems : List (Bundle O) → ℕ → Session sv.A → Type 0
-  Stems made h s = (s ≡ unused) ⊎ ((b : Bundle O) × Memᴰ b made × (b.house ≡ h) × (b.incarnation ≡ s.incarnation) × (b.counter ≡ s.counter) × (length s.replies ≡ length b.calls) × (st : Place sv) × (s.replies ≡ replies sv b.calls st))
+  Stems made h s =
+      (s ≡ unused) ⊎
+      ((b : Bundle O) × Memᴰ b made × (b.house ≡ h) × (b.incarnation ≡ s.incarnation) × (b.counter ≡ s.counter) × (length s.replies ≡ length b.calls) × (st : Place sv) × (s.replies ≡ replies sv b.calls st))
 
   abbrev pub Within : List (Bundle O) → Command O → Type 0
   Within made k = (b : Bundle O) → Memᴰ b k → Memᴰ b made
 
   pub bundle_stems : (made : List (Bundle O)) (b : Bundle O) (v : Played sv) → Memᴰ b made → ((h : ℕ) → Stems made h (v.sessions h)) → (h : ℕ) → Stems made h ((bundle_played sv b v).sessions h)
   unfolding bundle_played
-  bundle_stems made b v m f = by_test (λ (z : Played sv). (h : ℕ) → Stems made h (z.sessions h)) (is_new b v.sessions) (λ t. each b.house _ v.sessions (Stems made) (inr (b, m, refl, refl, refl, replies_length b.calls v.place, v.place, refl)) (λ h _. f h)) (λ _. f)
+  bundle_stems made b v m f =
+      by_test (λ (z : Played sv). (h : ℕ) → Stems made h (z.sessions h)) (is_new b v.sessions)
+      (λ t. each b.house _ v.sessions (Stems made) (inr (b, m, refl, refl, refl, replies_length b.calls v.place, v.place, refl)) (λ h _. f h)) (λ _. f)
 
   pub command_stems : (made : List (Bundle O)) (k : Command O) (v : Played sv) → Within made k → ((h : ℕ) → Stems made h (v.sessions h)) → (h : ℕ) → Stems made h ((command_played sv k v).sessions h)
   unfolding command_played
