@@ -14,3 +14,4 @@ pub mod Posted
 pub mod Heard
 pub mod Parted
 pub mod Now
+pub mod Passes

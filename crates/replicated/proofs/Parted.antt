@@ -151,11 +151,10 @@ module _ {O R : Type 0} (sv : Service O R) (kp : Keeper sv) where
   unfolding on_want
   want_is r q t l e = rw e (grind (arith, tests))
 
-  pub serving : ℕ → Want → Memory O → Disks sv kp → Wholes sv kp
+  abbrev pub serving : ℕ → Want → Memory O → Disks sv kp → Wholes sv kp
   serving r q m d = with_turn sv kp (record (turn_of m d) { sends = record silent { serves = Some (record { to = r; want = q }) } }) (begins sv kp m d)
 
   pub got_want : (r : ℕ) (q : Want) (m : Memory O) (d : Disks sv kp) → m.me < 3 → d.agreeing.recovery ≡ level → got sv kp r (Asked q) (begins sv kp m d) ≡ serving r q m d
-  unfolding serving
   got_want r q m d l e = ap (λ (t : Turns sv kp). with_turn sv kp t (begins sv kp m d)) (want_is r q (turn_of m d) l e)
 
   -- what is in a part
@@ -174,5 +173,5 @@ module _ {O R : Type 0} (sv : Service O R) (kp : Keeper sv) where
   next_of w (Some k) = refl
 
   pub portioned : (r : ℕ) (q : Want) (m : Memory O) (d : Disks sv kp) → Portioned q d (part_of sv kp q (serving r q m d))
-  unfolding part_of serving
+  unfolding part_of
   portioned r q m d = record { whole = is_whole sv kp q (serving r q m d); asked_is = refl; prom_is = refl; ver_is = refl; whole_is = refl; floor_is = refl; blocks_is = refl; next_is = next_of (serving r q m d) _ }
