@@ -15,3 +15,4 @@ pub mod Heard
 pub mod Parted
 pub mod Now
 pub mod Passes
+pub mod Meets

@@ -63,7 +63,7 @@ module _ {O R : Type 0} (sv : Service O R) (kp : Keeper sv) (keeps : Keeps sv kp
     pub unfit : Same ds.agreeing.version mc.pass.span → keeps.Fit ds.rest ds.kept dc.kept → ⊥
     pub cost : then.steps ≤ k + n.steps
 
-  resumes : {c s : ℕ} (p : Two c s) (n : N) (z : Wholes sv kp) (ms : Memory O) (ds : Disks sv kp) (st : Step sv kp ok lets all group es w three n c s z ms ds) (q v key : ℕ) (k : kp.Kept) (span : Span) → Resumed sv kp s q v k key span z → ds.agreeing.recovery ≡ level → v ≤ ds.agreeing.version → ds.agreeing.promised ≤ q →
+  pub resumes : {c s : ℕ} (p : Two c s) (n : N) (z : Wholes sv kp) (ms : Memory O) (ds : Disks sv kp) (st : Step sv kp ok lets all group es w three n c s z ms ds) (q v key : ℕ) (k : kp.Kept) (span : Span) → Resumed sv kp s q v k key span z → ds.agreeing.recovery ≡ level → v ≤ ds.agreeing.version → ds.agreeing.promised ≤ q →
       Wanting st.then c s z.turn.memory (disk_of sv kp z) ms ds
   resumes p n z ms ds st q v key k span r l a b =
       record { base = r.base; top = r.top; c_is = st.x_is; s_is = st.y_is; rec_is = r.rec_is; s_level = l; asks = asked_for sv kp ok lets all group es w three sure p st r.base r.top r.wants r.rec_is; vers = omega (arith, a, r.ver_is); proms = omega (arith, b, r.prom_is) }
