@@ -16,3 +16,5 @@ pub mod Parted
 pub mod Now
 pub mod Passes
 pub mod Meets
+pub mod New
+pub mod Help

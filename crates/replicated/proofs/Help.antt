@@ -1,0 +1,265 @@
+-- Two copies alone: both become level and even, one of them leads, and what it heard is done.
+use Rattle.std.specs.Prelude.{◌≡◌, ℕ, zero, suc, ◌+◌, ◌*◌, ◌%◌, max, Bool, true, false, not, List, [], ◌∷◌, Option, Some, None}
+use Rattle.std.proofs.Common.{◌<◌, ◌≤◌, ◌≢◌, ◌⊎◌, sym, refl, ap, ◌∙◌, subst, inl, inr, arith}
+use mathlib.Core.List.{Memᴰ}
+use native.Mathlib.Decide.{ℕ_discrete, dec_le}
+use Rattle.agreement.specs.Copies
+use Rattle.agreement.specs.Copies.{Proposal, nothing, voted, rank}
+use Rattle.agreement.proofs.Inv.{Inv}
+use Rattle.agreement.proofs.Behind.{Behind, no_less, not_two}
+use Rattle.disks.specs.Cluster.{In, Seen, Packet}
+use Rattle.compose.specs.Pure.{Stand, off, on, Trace}
+use Rattle.copies.specs.Service.{Service, Keeper, Keeps}
+use Rattle.copies.specs.Messages.{Bundle, Command, Session, Recovery, level, recovers, is_level, Agreeing, Status, Told}
+use Rattle.copies.specs.Copy.{Memory, Turn, raised, applied, is_nil, is_new, undone, applying, saying_to, noted, on_tick, on_status, goes_on}
+use Rattle.copies.specs.House.{Disks, Wholes, Messages, State, status_now, with_turn, works, begins, disk_of, got, ticked, Guard, replicated, command_done, on as on_turn}
+use Rattle.replicated.proofs.Good.{Ok, OkOn, Lags}
+use Rattle.replicated.proofs.Turns.{Reaches, Fills, pend_cases, keeps_goes, goes_fills}
+use Rattle.replicated.proofs.Heard.{Raised, got_raise, Taken, got_take, hears_apply, hears_gain, Led, tick_led}
+use Rattle.replicated.proofs.Parted.{turn_of, told_is}
+use Rattle.replicated.proofs.Now.{Wor, Sure, stands, Now, Pair, Step, swap, tick_x, hear_x, step_to, Facts, facts, said}
+use Rattle.replicated.proofs.Passes.{Both, catches}
+use Rattle.replicated.proofs.Meets.{Elects, elects_x, Met, meets}
+
+module _ {O R : Type 0} (sv : Service O R) (kp : Keeper sv) where
+  -- what is stored after a command is applied
+  abbrev pub after_command : Command O → Disks sv kp → State sv kp
+  after_command k d = command_done sv kp (suc d.agreeing.version) k (record { sessions = d.sessions; rest = d.rest; kept = d.kept })
+
+  -- a proposal is followed
+  pub record Applied (r p : ℕ) (d : Disks sv kp) (z : Wholes sv kp) : Type 0 where
+    pub agreeing_is : z.turn.memory.lead ≢ suc p → z.turn.agreeing ≡ applied p p d.agreeing
+    pub prom_is : z.turn.agreeing.promised ≡ p
+    pub says : Reaches r z.turn.sends.status
+
+  pub got_apply : (r : ℕ) (x : Status O) (m : Memory O) (d : Disks sv kp) (k : Command O) → m.me < 3 → r < 3 → r ≢ m.me → d.agreeing.recovery ≡ level → x.recovering ≡ false → d.agreeing.version ≡ x.version → d.agreeing.promised ≤ x.promised → x.promised % 3 ≡ r → x.proposal ≡ voted x.promised k →
+      Applied r x.promised d (got sv kp r (Told x) (begins sv kp m d))
+  unfolding Rattle.copies.specs.House.does_work
+  got_apply r x m d k l lr n v f e b o q =
+      subst (λ (t : Turn sv.Rest sv.Block O sv.A). Applied r x.promised d (on_turn sv kp goes_on (works sv kp (with_turn sv kp t (begins sv kp m d))))) (sym (hears_apply r x (turn_of sv kp m d) k l lr n v f e b o q))
+      (let g = keeps_goes (works sv kp (with_turn sv kp (applying x.promised x.promised k (saying_to r (noted r x (turn_of sv kp m d)))) (begins sv kp m d))).turn in
+      record { agreeing_is = λ c. g.still (λ y. c (g.lead_is ∙ y)); prom_is = g.prom_is; says = g.says r refl })
+
+  -- one's own proposal was followed
+  pub record Gained (k : Command O) (m : Memory O) (d : Disks sv kp) (z : Wholes sv kp) (j : ℕ) : Type 0 where
+    pub prom_is : z.turn.agreeing.promised ≡ d.agreeing.promised
+    pub ver_is : z.turn.agreeing.version ≡ suc d.agreeing.version
+    pub rec_is : z.turn.agreeing.recovery ≡ d.agreeing.recovery
+    pub sessions_is : z.turn.sessions ≡ (after_command k d).sessions
+    pub lead_is : z.turn.memory.lead ≡ m.lead
+    pub heard : (b : Bundle O) → b.house ≢ m.me → Memᴰ b m.heard → Memᴰ b z.turn.memory.heard
+    pub fills : Fills z.turn j
+
+  pub got_gain : (r : ℕ) (x : Status O) (m : Memory O) (d : Disks sv kp) (b : ℕ) (k : Command O) → m.me < 3 → r < 3 → r ≢ m.me → d.agreeing.recovery ≡ level → x.recovering ≡ false → x.version ≡ suc d.agreeing.version → x.promised ≤ d.agreeing.promised → x.last ≤ b → d.agreeing.proposal ≡ voted b k → m.lead ≡ suc d.agreeing.promised →
+      Gained k m d (got sv kp r (Told x) (begins sv kp m d)) r
+  unfolding Rattle.copies.specs.House.does_work
+  got_gain r x m d b k l lr n v f e lp ll q le =
+      subst (λ (t : Turn sv.Rest sv.Block O sv.A). Gained k m d (on_turn sv kp goes_on (works sv kp (with_turn sv kp t (begins sv kp m d)))) r) (sym (hears_gain r x (turn_of sv kp m d) b k l lr n v f e lp ll q))
+      (let u = (works sv kp (with_turn sv kp (applying d.agreeing.promised x.last k (noted r x (turn_of sv kp m d))) (begins sv kp m d))).turn in
+      let g = keeps_goes u in
+      record { prom_is = g.prom_is; ver_is = g.ver_is; rec_is = g.rec_is; sessions_is = g.sessions_is; lead_is = g.lead_is; heard = g.heard; fills = goes_fills u r l (ap is_level v) le refl })
+
+module _ {O R : Type 0} (sv : Service O R) (kp : Keeper sv) (keeps : Keeps sv kp) (ok : Guard sv kp) (lets : (x : In (Messages sv kp) O) (m : Memory O) (d : Disks sv kp) → ok x m d ≡ true) (all : ℕ) (group : List ℕ) (es : List (Seen O R)) (w : Wor sv kp) (three : 3 ≤ all)
+    (sure : (fs : List (Seen O R)) (v : Wor sv kp) → Trace (replicated sv kp ok) all fs v → Sure sv kp v) where
+  abbrev N : Type 0
+  N = Now sv kp ok lets all group es w
+
+  abbrev Two : ℕ → ℕ → Type 0
+  Two x y = Pair sv kp ok lets all group es w three x y
+
+  abbrev turned : {x y : ℕ} → Two x y → Two y x
+  turned p = swap sv kp ok lets all group es w three p
+
+  -- both become level
+  pub levels : {x y : ℕ} (p : Two x y) (n : N) (mx : Memory O) (dx : Disks sv kp) (my : Memory O) (dy : Disks sv kp) → n.v.house x ≡ on mx dx → n.v.house y ≡ on my dy → Both sv kp keeps ok lets all group es w three sure n (6 * keeps.most + 9) x y
+  levels {x} {y} p n mx dx my dy ex ey = go dx.agreeing.recovery dy.agreeing.recovery refl refl (ox.lags p.lx) (oy.lags p.ly)
+    where
+      s : Sure sv kp n.v
+      s = sure n.fs n.v n.trace
+
+      ox : OkOn sv kp s.g s.asked s.made x mx dx
+      ox = subst (Ok sv kp s.g s.asked s.made x) ex (s.house x)
+
+      oy : OkOn sv kp s.g s.asked s.made y my dy
+      oy = subst (Ok sv kp s.g s.asked s.made y) ey (s.house y)
+
+      go : (a b : Recovery) → dx.agreeing.recovery ≡ a → dy.agreeing.recovery ≡ b → Lags s.g x a → Lags s.g y b → Both sv kp keeps ok lets all group es w three sure n (6 * keeps.most + 9) x y
+      go level level e f h i = record { then = n; mx = mx; dx = dx; my = my; dy = dy; x_is = ex; y_is = ey; x_level = e; y_level = f; cost = omega arith }
+      go (recovers a b) level e f h i = catches sv kp keeps ok lets all group es w three sure p n mx dx my dy ex ey a b e f (omega (arith, no_less s.g s.inv x h y p.ly p.ne, (ox.copy_is p.lx).version_is, (oy.copy_is p.ly).version_is))
+      go level (recovers a b) e f h i =
+          let z = catches sv kp keeps ok lets all group es w three sure (turned p) n my dy mx dx ey ex a b f e (omega (arith, no_less s.g s.inv y i x p.lx (λ q. p.ne (sym q)), (ox.copy_is p.lx).version_is, (oy.copy_is p.ly).version_is)) in
+          record { then = z.then; mx = z.my; dx = z.dy; my = z.mx; dy = z.dx; x_is = z.y_is; y_is = z.x_is; x_level = z.y_level; y_level = z.x_level; cost = z.cost }
+      go (recovers a b) (recovers c d) e f h i = absurd (not_two s.g s.inv x y h i (λ q. p.ne (sym q)))
+
+  -- both are level and as far, have promised as much, and neither leads
+  pub record Even (n : N) (x y : ℕ) : Type 0 where
+    pub mx : Memory O
+    pub dx : Disks sv kp
+    pub my : Memory O
+    pub dy : Disks sv kp
+    pub x_is : n.v.house x ≡ on mx dx
+    pub y_is : n.v.house y ≡ on my dy
+    pub x_level : dx.agreeing.recovery ≡ level
+    pub y_level : dy.agreeing.recovery ≡ level
+    pub vers : dy.agreeing.version ≡ dx.agreeing.version
+    pub proms : dy.agreeing.promised ≡ dx.agreeing.promised
+    pub x_not : mx.lead ≢ suc dx.agreeing.promised
+    pub y_not : my.lead ≢ suc dy.agreeing.promised
+
+  pub record Evens (n : N) (k x y : ℕ) : Type 0 where
+    pub then : N
+    pub even : Even then x y
+    pub cost : then.steps ≤ k + n.steps
+
+  pub evens : {x y : ℕ} (p : Two x y) (n : N) (mx : Memory O) (dx : Disks sv kp) (my : Memory O) (dy : Disks sv kp) → n.v.house x ≡ on mx dx → n.v.house y ≡ on my dy → Evens n (24 * keeps.most + 42) x y
+  evens {x} {y} p n mx dx my dy ex ey = one (levels p n mx dx my dy ex ey)
+    where
+      three' : (l : Both sv kp keeps ok lets all group es w three sure n (6 * keeps.most + 9) x y) (a : Met sv kp keeps ok lets all group es w three sure l.then x y l.mx l.dx l.dy) (b : Met sv kp keeps ok lets all group es w three sure a.then y x a.my a.dy a.dx) →
+          b.dy.agreeing.promised ≡ b.dx.agreeing.promised → b.my.lead ≢ suc b.dy.agreeing.promised → Met sv kp keeps ok lets all group es w three sure b.then x y b.my b.dy b.dx → Evens n (24 * keeps.most + 42) x y
+      three' l a b bp nl c =
+          record {
+            then = c.then;
+            even = record { mx = c.mx; dx = c.dx; my = c.my; dy = c.dy; x_is = c.x_is; y_is = c.y_is; x_level = c.x_level; y_level = c.y_level; vers = c.as_far nl b.far; proms = cp; x_not = c.not_led nl; y_not = λ e. p.ne (sym ((facts sv kp ok lets all group es w three sure c.then y c.my c.dy p.ly c.y_is).own e) ∙ ap (λ k. k % 3) cp ∙ c.own) };
+            cost = omega (arith, l.cost, a.cost, b.cost, c.cost);
+          }
+        where
+          cp : c.dy.agreeing.promised ≡ c.dx.agreeing.promised
+          cp = omega (arith, c.prom_is, c.low, bp)
+
+      two : (l : Both sv kp keeps ok lets all group es w three sure n (6 * keeps.most + 9) x y) (a : Met sv kp keeps ok lets all group es w three sure l.then x y l.mx l.dx l.dy) → Met sv kp keeps ok lets all group es w three sure a.then y x a.my a.dy a.dx → Evens n (24 * keeps.most + 42) x y
+      two l a b = three' l a b bp (λ e. p.ne (sym b.own ∙ ap (λ k. k % 3) (sym bp) ∙ (facts sv kp ok lets all group es w three sure b.then x b.my b.dy p.lx b.y_is).own e)) (meets sv kp keeps ok lets all group es w three sure p b.then b.my b.mx b.dy b.dx b.y_is b.x_is b.y_level b.x_level)
+        where
+          bp : b.dy.agreeing.promised ≡ b.dx.agreeing.promised
+          bp = omega (arith, b.prom_is, b.low, a.prom_is)
+
+      one : Both sv kp keeps ok lets all group es w three sure n (6 * keeps.most + 9) x y → Evens n (24 * keeps.most + 42) x y
+      one l = by_met l (meets sv kp keeps ok lets all group es w three sure p l.then l.mx l.my l.dx l.dy l.x_is l.y_is l.x_level l.y_level)
+        where
+          by_met : (l : Both sv kp keeps ok lets all group es w three sure n (6 * keeps.most + 9) x y) → Met sv kp keeps ok lets all group es w three sure l.then x y l.mx l.dx l.dy → Evens n (24 * keeps.most + 42) x y
+          by_met l a = two l a (meets sv kp keeps ok lets all group es w three sure (turned p) a.then a.my a.mx a.dy a.dx a.y_is a.x_is a.y_level a.x_level)
+
+  -- both are level and as far, u has promised no less and doesn't lead
+  pub record Calm (n : N) (z u : ℕ) (mz : Memory O) (dz : Disks sv kp) : Type 0 where
+    pub mu : Memory O
+    pub du : Disks sv kp
+    pub z_is : n.v.house z ≡ on mz dz
+    pub u_is : n.v.house u ≡ on mu du
+    pub z_level : dz.agreeing.recovery ≡ level
+    pub u_level : du.agreeing.recovery ≡ level
+    pub vers : du.agreeing.version ≡ dz.agreeing.version
+    pub proms : dz.agreeing.promised ≤ du.agreeing.promised
+    pub u_not : mu.lead ≢ suc du.agreeing.promised
+
+  -- x leads, and both are level and as far
+  pub record Leads (n : N) (x y : ℕ) (mx : Memory O) (dx : Disks sv kp) : Type 0 where
+    pub my : Memory O
+    pub dy : Disks sv kp
+    pub x_is : n.v.house x ≡ on mx dx
+    pub y_is : n.v.house y ≡ on my dy
+    pub x_level : dx.agreeing.recovery ≡ level
+    pub y_level : dy.agreeing.recovery ≡ level
+    pub vers : dy.agreeing.version ≡ dx.agreeing.version
+    pub proms : dy.agreeing.promised ≡ dx.agreeing.promised
+    pub leads : mx.lead ≡ suc dx.agreeing.promised
+    pub pend_is : (rank dx.agreeing.proposal ≡ 0) ⊎ (rank dx.agreeing.proposal ≡ suc dx.agreeing.promised)
+
+  pub record Won (n : N) (k z u : ℕ) (mz : Memory O) (dz : Disks sv kp) : Type 0 where
+    pub then : N
+    pub m : Memory O
+    pub d : Disks sv kp
+    pub leads : Leads then z u m d
+    pub sessions_is : d.sessions ≡ dz.sessions
+    pub heard : (b : Bundle O) → b.house ≢ z → Memᴰ b mz.heard → Memᴰ b m.heard
+    pub cost : then.steps ≤ k + n.steps
+
+  -- y hears a higher status of x, which is as far and hasn't proposed under it
+  record Follows (n : N) (x y : ℕ) (mx : Memory O) (dx : Disks sv kp) (my : Memory O) (dy : Disks sv kp) (p : ℕ) : Type 0 where
+    pub then : N
+    pub m : Memory O
+    pub d : Disks sv kp
+    pub x_is : then.v.house x ≡ on mx dx
+    pub y_is : then.v.house y ≡ on m d
+    pub agreeing_is : d.agreeing ≡ raised p dy.agreeing
+    pub sessions_is : d.sessions ≡ dy.sessions
+    pub not_led : m.lead ≢ suc d.agreeing.promised
+    pub said : dy.agreeing.promised < p → Memᴰ (record { to = x; from = y; what = Told (status_now sv kp (raised p dy.agreeing)) }) then.news
+    pub heard : (b : Bundle O) → b.house ≢ y → Memᴰ b my.heard → Memᴰ b m.heard
+    pub cost : then.steps ≡ suc n.steps
+
+  follows : {x y : ℕ} (p : Two x y) (n : N) (mx my : Memory O) (dx dy : Disks sv kp) → n.v.house x ≡ on mx dx → n.v.house y ≡ on my dy → (X : Status O) → Memᴰ (record { to = y; from = x; what = Told X }) n.news → dy.agreeing.recovery ≡ level → X.recovering ≡ false → dy.agreeing.version ≡ X.version → dy.agreeing.promised ≤ X.promised → X.promised % 3 ≡ x → rank X.proposal ≢ suc X.promised →
+      Follows n x y mx dx my dy X.promised
+  follows {x} {y} p n mx my dx dy ex ey X st vy rx ve pr own rl =
+      let g = facts sv kp ok lets all group es w three sure n y my dy p.ly ey in
+      let r = got_raise x X (turn_of sv kp my dy) (omega (arith, p.ly, g.me_is)) p.lx (λ e. p.ne (sym (e ∙ g.me_is))) vy rx refl ve pr (λ e. p.ne (sym g.me_is ∙ sym e ∙ own)) rl in
+      let h = step_to sv kp ok lets all group es w three (told_is sv kp x X my dy r.work_is) (hear_x sv kp ok lets all group es w three (turned p) n ey ex (Told X) st) in
+      let k = facts sv kp ok lets all group es w three sure h.then y _ _ p.ly h.x_is in
+      let nl : my.lead ≢ suc X.promised = λ e. p.ne (sym (k.own (r.stands.lead_is ∙ e ∙ ap suc (sym r.prom_is))) ∙ ap (λ j. j % 3) r.prom_is ∙ own) in
+      let a = r.agreeing_is nl in
+      record {
+        then = h.then;
+        m = _;
+        d = _;
+        x_is = h.y_is;
+        y_is = h.x_is;
+        agreeing_is = a;
+        sessions_is = r.stands.sessions_is;
+        not_led = λ e. nl (sym r.stands.lead_is ∙ e ∙ ap suc r.prom_is);
+        said = λ l. subst (λ (c : Agreeing O). Memᴰ (record { to = x; from = y; what = Told (status_now sv kp c) }) h.then.news) a (said sv kp ok lets all group es w three sure (turned p) h (r.says l));
+        heard = λ b o m. r.stands.heard b (λ e. o (e ∙ g.me_is)) m;
+        cost = h.cost;
+      }
+
+  -- z leads, when u and then z itself were elected
+  pub wins : {z u : ℕ} (p : Two z u) (n : N) (mz : Memory O) (dz : Disks sv kp) → Calm n z u mz dz → Won n 11 z u mz dz
+  wins {z} {u} p n mz dz a = one (elects_x sv kp keeps ok lets all group es w three sure (turned p) n a.mu mz a.du dz a.u_is a.z_is a.u_level a.u_not)
+    where
+      ver : {a b : Agreeing O} → a ≡ b → a.version ≡ b.version
+      ver e = ap (λ (s : Agreeing O). s.version) e
+
+      prom : {a b : Agreeing O} → a ≡ b → a.promised ≡ b.promised
+      prom e = ap (λ (s : Agreeing O). s.promised) e
+
+      rec : {a b : Agreeing O} → a ≡ b → a.recovery ≡ b.recovery
+      rec e = ap (λ (s : Agreeing O). s.recovery) e
+
+      told_level : {v : Recovery} → v ≡ level → not (is_level v) ≡ false
+      told_level e = ap (λ (v : Recovery). not (is_level v)) e
+
+      El : (m : N) (x y : ℕ) (mx : Memory O) (dx : Disks sv kp) (my : Memory O) (dy : Disks sv kp) → Type 0
+      El m x y mx dx my dy = Elects sv kp keeps ok lets all group es w three sure m 4 x y mx dx my dy
+
+      four : (b : El n u z a.mu a.du mz dz) (c : Follows b.then u z b.m b.d mz dz b.p) (d : El c.then z u c.m c.d b.m b.d) (e : Follows d.then z u d.m d.d b.m b.d d.p) → d.d.agreeing.recovery ≡ level → e.d.agreeing.recovery ≡ level → d.d.agreeing.version ≡ e.d.agreeing.version → d.d.agreeing.promised ≡ d.p → e.d.agreeing.promised ≡ d.p → b.d.agreeing.version ≡ e.d.agreeing.version → b.d.agreeing.recovery ≡ level → b.d.agreeing.promised < d.p → Won n 11 z u mz dz
+      four b c d e dl el ve dp ep bv bl lt =
+          record {
+            then = h.then;
+            m = (with_turn sv kp (goes_on (on_status u X (turn_of sv kp d.m d.d))) (begins sv kp d.m d.d)).turn.memory;
+            d = disk_of sv kp (with_turn sv kp (goes_on (on_status u X (turn_of sv kp d.m d.d))) (begins sv kp d.m d.d));
+            leads = record { my = e.m; dy = e.d; x_is = h.x_is; y_is = h.y_is; x_level = t.rec_is ∙ dl; y_level = el; vers = omega (arith, t.ver_is, ve); proms = ep ∙ sym t.prom_is; leads = t.lead_is ∙ ap suc (sym t.prom_is); pend_is = t.pend_is };
+            sessions_is = t.sessions_is ∙ d.sessions_is ∙ c.sessions_is;
+            heard = λ q o k. t.heard q (λ g. o (g ∙ f.me_is)) (d.heard q o (c.heard q o k));
+            cost = omega (arith, h.cost, e.cost, d.cost, c.cost, b.cost);
+          }
+        where
+          f : Facts sv kp ok lets all group es w three sure z d.m d.d
+          f = facts sv kp ok lets all group es w three sure e.then z d.m d.d p.lx e.x_is
+
+          X : Status O
+          X = status_now sv kp (raised d.p b.d.agreeing)
+
+          t : Taken d.p (noted u X (turn_of sv kp d.m d.d)) (goes_on (on_status u X (turn_of sv kp d.m d.d)))
+          t = got_take u X (turn_of sv kp d.m d.d) (omega (arith, p.lx, f.me_is)) p.ly (λ g. p.ne (g ∙ f.me_is)) dl (told_level bl) (ve ∙ sym bv) dp (d.own ∙ sym f.me_is) (λ g. d.rank_low (sym (ap (λ (s : Agreeing O). rank s.proposal) d.agreeing_is) ∙ g))
+
+          h : Step sv kp ok lets all group es w three e.then z u (with_turn sv kp (goes_on (on_status u X (turn_of sv kp d.m d.d))) (begins sv kp d.m d.d)) e.m e.d
+          h = step_to sv kp ok lets all group es w three (told_is sv kp u X d.m d.d t.work_is) (hear_x sv kp ok lets all group es w three p e.then e.x_is e.y_is (Told X) (e.said lt))
+
+      three' : (b : El n u z a.mu a.du mz dz) (c : Follows b.then u z b.m b.d mz dz b.p) (d : El c.then z u c.m c.d b.m b.d) → b.d.agreeing.recovery ≡ level → c.d.agreeing.recovery ≡ level → b.d.agreeing.version ≡ c.d.agreeing.version → b.d.agreeing.promised ≡ c.d.agreeing.promised → Follows d.then z u d.m d.d b.m b.d d.p → Won n 11 z u mz dz
+      three' b c d bl cl ve pr e = four b c d e (rec d.agreeing_is ∙ cl) (rec e.agreeing_is ∙ bl) (omega (arith, ver d.agreeing_is, ver e.agreeing_is, ve)) (prom d.agreeing_is) (prom e.agreeing_is) (sym (ver e.agreeing_is)) bl (omega (arith, d.over, pr))
+
+      two : (b : El n u z a.mu a.du mz dz) (c : Follows b.then u z b.m b.d mz dz b.p) → b.d.agreeing.recovery ≡ level → c.d.agreeing.recovery ≡ level → b.d.agreeing.version ≡ c.d.agreeing.version → b.d.agreeing.promised ≡ c.d.agreeing.promised → El c.then z u c.m c.d b.m b.d → Won n 11 z u mz dz
+      two b c bl cl ve pr d = three' b c d bl cl ve pr (follows p d.then d.m b.m d.d b.d d.x_is d.y_is (status_now sv kp (raised d.p c.d.agreeing)) d.said bl (told_level cl) ve (omega (arith, pr, d.over)) d.own d.rank_low)
+
+      by_follows : (b : El n u z a.mu a.du mz dz) → Follows b.then u z b.m b.d mz dz b.p → Won n 11 z u mz dz
+      by_follows b c = two b c (rec b.agreeing_is ∙ a.u_level) (rec c.agreeing_is ∙ a.z_level) (omega (arith, ver b.agreeing_is, ver c.agreeing_is, a.vers)) (prom b.agreeing_is ∙ sym (prom c.agreeing_is)) (elects_x sv kp keeps ok lets all group es w three sure p c.then c.m b.m c.d b.d c.y_is c.x_is (rec c.agreeing_is ∙ a.z_level) c.not_led)
+
+      one : El n u z a.mu a.du mz dz → Won n 11 z u mz dz
+      one b = by_follows b (follows (turned p) b.then b.m mz b.d dz b.x_is b.y_is (status_now sv kp (raised b.p a.du.agreeing)) b.said a.z_level (told_level a.u_level) (sym a.vers) (omega (arith, a.proms, b.over)) b.own b.rank_low)
