@@ -16,5 +16,7 @@ pub mod Parted
 pub mod Now
 pub mod Passes
 pub mod Meets
+pub mod Like
+pub mod Stage
 pub mod New
 pub mod Help
