@@ -20,3 +20,4 @@ pub mod Like
 pub mod Stage
 pub mod New
 pub mod Help
+pub mod Ends
