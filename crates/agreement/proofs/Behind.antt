@@ -1,6 +1,8 @@
 -- What is known of a copy that recovers: the two others are no less far, and two never recover at once.
 use Rattle.std.proofs.Common.{◌≡◌, ℕ, zero, suc, ◌%◌, ◌<◌, ◌≤◌, ◌≢◌, sym, refl, ap, ◌∙◌, subst, arith}
 use native.Mathlib.Decide.{ℕ_discrete}
+use Rattle.std.specs.Prelude.{false, ◌&&◌, nat_le, ◌==◌}
+use Rattle.std.proofs.lemmas.Bool.Decides.{nat_tests}
 use Rattle.agreement.specs.Copies.{nothing, voted, Copy, World, put, rank, raised}
 use Rattle.agreement.proofs.Base.{Snap, Prop, Chosen, copy_here, copy_other, snap_grows}
 use Rattle.agreement.proofs.Inv.{Inv, Kept, Below}
@@ -24,6 +26,10 @@ module _ {K : Type 0} (w : World K) (m : ℕ) (hm : m < 3) (r : ℕ) (x : Copy K
 
   pub behind_voted : (vb : ℕ) (vk : K) → (w.copy m).proposal ≡ voted vb vk → (x.version ≡ suc (w.copy m).version → vb < x.last) → Behind w m
   behind_voted vb vk e f = behind_starts (λ g. let t : rank (w.copy m).proposal ≡ suc vb = ap rank e in omega (arith, f g))
+
+  -- by the test that it couldn't learn from it
+  pub behind_test : (vb : ℕ) (vk : K) → (w.copy m).proposal ≡ voted vb vk → (x.version == suc (w.copy m).version && nat_le x.last vb) ≡ false → Behind w m
+  behind_test vb vk e f = behind_voted vb vk e (λ g. grind (arith, nat_tests))
 
 -- and how it goes on
 module _ {K : Type 0} (w : World K) (m : ℕ) (b : Behind w m) where

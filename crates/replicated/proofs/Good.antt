@@ -1,5 +1,5 @@
 -- What holds whenever something can happen.
-use Rattle.std.proofs.Common.{◌≡◌, ℕ, suc, ◌%◌, ◌<◌, ◌≤◌, true, ◌≢◌, ◌⊎◌, List, ◌∷◌, sym, ap, ◌∙◌, subst}
+use Rattle.std.proofs.Common.{◌≡◌, ℕ, suc, ◌%◌, ◌<◌, ◌≤◌, true, ◌≢◌, ◌⊎◌, List, ◌∷◌, sym, subst}
 use mathlib.Core.List.{Memᴰ}
 use Rattle.agreement.specs.Copies.{Proposal, nothing, voted, Copy}
 use Rattle.agreement.specs.Copies

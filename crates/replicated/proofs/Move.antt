@@ -1,5 +1,5 @@
 -- A house's copy comes to another state.
-use Rattle.std.proofs.Common.{◌≡◌, ℕ, suc, ◌%◌, ◌<◌, ◌≤◌, ◌≢◌, ◌⊎◌, List, [], ◌∷◌, Option, None, length, sym, refl, ap, ◌∙◌, subst, inl, inr, arith}
+use Rattle.std.proofs.Common.{◌≡◌, ℕ, suc, ◌%◌, ◌<◌, ◌≤◌, ◌≢◌, ◌⊎◌, List, [], None, sym, refl, ap, ◌∙◌, subst, inl, inr, arith}
 use mathlib.Core.List.Memᴰ
 use mathlib.Core.List.{Memᴰ}
 use native.Mathlib.Decide.{dec_le}
@@ -22,7 +22,7 @@ use Rattle.copies.specs.Promise.{Played, command_played, replay}
 use Rattle.replicated.proofs.Lists.{here, there, each}
 use Rattle.replicated.proofs.Replay.{Within}
 use Rattle.replicated.proofs.Caught.{Shows, long, done_shows}
-use Rattle.replicated.proofs.Good.{Promised, Lead, Leads, Lags, Grown, Blocks, CopyIs, PassIs, Inside, OkOn, Ok, Owed, Calm, Tale, Top, Good, copy_on, blocks_on, pass_on, msg_grows, leads_grows, ok_grows, tale_swap}
+use Rattle.replicated.proofs.Good.{Promised, Lead, Leads, Lags, Grown, Blocks, CopyIs, PassIs, Inside, OkOn, Ok, Owed, Calm, Tale, Top, Good, blocks_on, pass_on, msg_grows, leads_grows, ok_grows, tale_swap}
 use Rattle.replicated.proofs.Grow.{tale_command}
 
 module _ {O R : Type 0} (sv : Service O R) (kp : Keeper sv) where

@@ -1,5 +1,5 @@
 -- How many calls wait, as answers are told.
-use Rattle.std.proofs.Common.{◌≡◌, ℕ, suc, ◌+◌, ◌≤◌, Bool, true, false, cond, ◌&&◌, eqb, ◌≢◌, List, [], ◌∷◌, ◌++◌, sym, refl, ap, ◌∙◌, inl, inr, arith, eqb-true}
+use Rattle.std.proofs.Common.{◌≡◌, ℕ, suc, ◌+◌, ◌≤◌, Bool, true, false, cond, not, ◌&&◌, ◌||◌, T, eqb, ◌≢◌, List, [], ◌∷◌, ◌++◌, sym, refl, ap, ◌∙◌, inl, inr, arith, eqb-true}
 use mathlib.Core.List.Memᴰ
 use mathlib.Core.List.{Memᴰ}
 use borrow.Author.Tests.{eqb-false}
@@ -126,3 +126,15 @@ module _ {M R : Type 0} where
   used_tells i k [] es e = e
   used_tells i k (To j m ∷ os) es e = used_tells i k os es e
   used_tells i k (Tell n r ∷ os) es e = used_tells i k os es e
+
+pub or_right : (a b : Bool) → b ≡ true → (a || b) ≡ true
+or_right true b e = refl
+or_right false b e = e
+
+pub or_left : (a b : Bool) → a ≡ true → (a || b) ≡ true
+or_left true b e = refl
+or_left false b e = absurd (let z : ◌≡◌ {A = ℕ} 0 1 = cc in omega arith)
+
+pub not_both : (b : Bool) → T (not b) → b ≡ true → ⊥
+not_both true h e = h
+not_both false h e = let z : ◌≡◌ {A = ℕ} 0 1 = cc in omega arith

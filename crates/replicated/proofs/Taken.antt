@@ -8,12 +8,13 @@ use Rattle.agreement.proofs.Behind.{Behind}
 use Rattle.copies.specs.Service.{Service, Keeper, Lawful, Keeps, in_range}
 use Rattle.copies.specs.Messages.{Command, Session, Recovery, level, recovers, Want, Tail, more, ends, next_key}
 use Rattle.copies.specs.Copy.{Span, unseen, from_to, Pass, Sends, rests, new_pass, is_asked, widened, also, ended, adopted, saying_to, on_part, passed, tail_taken, taken, begins_again}
-use Rattle.copies.specs.House.{Wholes, Turns, Parts, with_turn, put_rest, stowed, does_work, works, disk_of}
+use Rattle.copies.specs.House.{Wholes, Turns, Parts, with_turn, put_rest, stowed, does_work, disk_of}
 use Rattle.copies.specs.Promise.{replay}
-use Rattle.replicated.proofs.Caught.{Shows, AsOf, PartOk, as_of_wider, none_right, takes_range, ends_shows}
-use Rattle.replicated.proofs.Good.{Lags, Blocks, CopyIs, Past, Passing, PassIs}
+use Rattle.replicated.proofs.Caught.{AsOf, PartOk, as_of_wider, none_right, takes_range, ends_shows}
+use Rattle.replicated.proofs.Good.{Lags, Blocks, CopyIs, Passing, PassIs}
 use Rattle.replicated.proofs.Move.{Scene, At, mine, is_copy_of, cur, to_recovery, to_adopted}
-use Rattle.replicated.proofs.Micro.{idle, ThenWork, copy_here}
+use Rattle.replicated.proofs.Statuses.{idle, ThenWork}
+use Rattle.replicated.proofs.Bundles.{copy_here}
 
 two_true : (a b : Bool) → (a && b) ≡ true → (a ≡ true) × (b ≡ true)
 two_true true b e = (refl, e)
