@@ -1,5 +1,5 @@
 -- Turns of a house, as far as bundles' numbers go: what it remembers, votes for and has done is of bundles that were made, no two of which have
--- one number, and each session has as many replies as the bundle of its number has calls.
+-- one number, and each session has as many replies as the bundle of its number has calls, and one for each of them.
 use Rattle.std.specs.Prelude.{◌≡◌, ◌⊎◌, ◌<◌, ◌≤◌, ℕ, suc, ◌%◌, max, true, ◌&&◌, ◌||◌, not, List, [], ◌∷◌, ◌++◌, length, Option, Some, None, nat_lt, nat_le, ◌==◌}
 use Rattle.std.proofs.Common.{refl, sym, ap, ◌∙◌, subst, inl, inr, arith, eqb-true}
 use mathlib.Core.List.Memᴰ
@@ -7,7 +7,7 @@ use mathlib.Core.List.{Memᴰ}
 use Rattle.agreement.specs.Copies.{Proposal, nothing, voted, rank, higher}
 use Rattle.agreement.proofs.Base.{by_test}
 use Rattle.copies.specs.Service.{Service, Keeper}
-use Rattle.copies.specs.Messages.{Item, Bundle, Command, Session, Recovery, level, recovers, is_level, Agreeing, Status, Want, Part, Tail, more, ends, next_key, Bundled, Done, Told, Asked, Given}
+use Rattle.copies.specs.Messages.{Item, Bundle, Command, Reply, Session, Recovery, level, recovers, is_level, Agreeing, Status, Want, Part, Tail, more, ends, next_key, Bundled, Done, Told, Asked, Given}
 use Rattle.copies.specs.Copy.{Way, free, under, Span, unseen, from_to, Memory, Work, rests, applies, takes, replaces, Turn, is_copy, is_free, is_nil, is_new, is_asked, not_of, undone, widened, patience, new_bundle, on_bundle, packed, pack, freed, settle, settle_here, is_open, forward, goes_on, agreed, raised, raising, ahead, takes_over, may_lead, even, hears, asks_on, status_of, noted, on_status, on_part, passed, tail_taken, taken, on_want, elect, stirs, resend, on_tick, queued, count}
 use Rattle.copies.specs.House.{Wholes, Messages, State, runs, bundle_done, command_done, put_rest, stowed, does_work, works, got, ticked}
 
@@ -20,6 +20,7 @@ module _ {O A : Type 0} where
     pub incarnation_is : bundle.incarnation ≡ s.incarnation
     pub counter_is : bundle.counter ≡ s.counter
     pub as_many : length s.replies ≡ length bundle.calls
+    pub answers : (x : Item O) → Memᴰ x bundle.calls → (q : Reply A) × Memᴰ q s.replies × (q.id ≡ x.id)
 
   -- a session of house h
   abbrev pub Sound : List (Bundle O) → ℕ → Session A → Type 0
@@ -30,7 +31,7 @@ module _ {O A : Type 0} where
 
   pub sound_grows : {made all : List (Bundle O)} → ((b : Bundle O) → Memᴰ b made → Memᴰ b all) → (h : ℕ) (s : Session A) → Sound made h s → Sound all h s
   sound_grows f h s (inl e) = inl e
-  sound_grows f h s (inr o) = inr (record { bundle = o.bundle; inside = f o.bundle o.inside; house_is = o.house_is; incarnation_is = o.incarnation_is; counter_is = o.counter_is; as_many = o.as_many })
+  sound_grows f h s (inr o) = inr (record { bundle = o.bundle; inside = f o.bundle o.inside; house_is = o.house_is; incarnation_is = o.incarnation_is; counter_is = o.counter_is; as_many = o.as_many; answers = o.answers })
 
 module _ {O : Type 0} where
   abbrev pub AllIn : (made bs : List (Bundle O)) → Type 0
@@ -315,9 +316,17 @@ module _ {O R : Type 0} (sv : Service O R) (kp : Keeper sv) where
     runs_many v [] r s = refl
     runs_many v (x ∷ xs) r s = let z = runs_many v xs (sv.next x.call r (kp.look s)) (kp.write (sv.next x.call r (kp.look s)) v (sv.changes x.call r (kp.look s)) s) in omega arith
 
+    runs_answers : (v : ℕ) (xs : List (Item O)) (r : sv.Rest) (s : kp.Kept) (x : Item O) → Memᴰ x xs → (q : Reply sv.A) × Memᴰ q (runs sv kp v xs r s).replies × (q.id ≡ x.id)
+    unfolding runs
+    runs_answers v [] r s x m = absurd (Memᴰ.not-nil m)
+    runs_answers v (y ∷ xs) r s x m = elim (Memᴰ.cases_cons m) [
+      | inl e ↦ (_, Memᴰ.head refl, ap (λ (z : Item O). z.id) (sym e))
+      | inr n ↦ (let q = runs_answers v xs (sv.next y.call r (kp.look s)) (kp.write (sv.next y.call r (kp.look s)) v (sv.changes y.call r (kp.look s)) s) x n in (q.0, Memᴰ.tail q.1, q.2))
+    ]
+
     sound_bundle : (v : ℕ) (b : Bundle O) (z : State sv kp) → Memᴰ b made → AllSound made z.sessions → AllSound made (bundle_done sv kp v b z).sessions
     unfolding bundle_done
-    sound_bundle v b z m f = by_test (λ (y : State sv kp). AllSound made y.sessions) (is_new b z.sessions) (λ _ h. by_test (Sound made h) (h == b.house) (λ e. inr (record { bundle = b; inside = m; house_is = sym (eqb-true _ _ e); incarnation_is = refl; counter_is = refl; as_many = runs_many v b.calls z.rest z.kept })) (λ _. f h)) (λ _. f)
+    sound_bundle v b z m f = by_test (λ (y : State sv kp). AllSound made y.sessions) (is_new b z.sessions) (λ _ h. by_test (Sound made h) (h == b.house) (λ e. inr (record { bundle = b; inside = m; house_is = sym (eqb-true _ _ e); incarnation_is = refl; counter_is = refl; as_many = runs_many v b.calls z.rest z.kept; answers = runs_answers v b.calls z.rest z.kept })) (λ _. f h)) (λ _. f)
 
     sound_command : (v : ℕ) (k : Command O) (z : State sv kp) → AllIn made k → AllSound made z.sessions → AllSound made (command_done sv kp v k z).sessions
     unfolding command_done

@@ -32,3 +32,4 @@ pub mod Passes
 pub mod Meets
 pub mod Help
 pub mod Attempts
+pub mod Open
