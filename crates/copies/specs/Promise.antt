@@ -1,8 +1,8 @@
 -- What is promised of the houses together: they are as one place, and their copies agree.
 -- Assumes nothing.
-use Rattle.std.specs.Prelude.{◌≡◌, ◌⊎◌, ℕ, suc, ◌+◌, ◌<◌, ◌≤◌, Bool, true, false, cond, List, [], ◌∷◌, ◌++◌, length, not}
+use Rattle.std.specs.Prelude.{◌≡◌, ◌⊎◌, ℕ, suc, ◌+◌, ◌*◌, ◌<◌, ◌≤◌, Bool, true, false, cond, List, [], ◌∷◌, ◌++◌, length, not}
 use mathlib.Core.List.{Memᴰ}
-use Rattle.disks.specs.Cluster.{Plain, Seen, Packet, put}
+use Rattle.disks.specs.Cluster.{In, Plain, Seen, Packet, put}
 use Rattle.compose.specs.Pure.{Pure, Stand, off, on, World, Trace, begin, rises, does, asked, ticks, falls, falls_rising, falls_doing, falls_asked, falls_ticking, PureAsOne, PureBusy, PureAnswers}
 use Rattle.copies.specs.Service.{Service, Keeper, Lawful, Keeps, overwritten}
 use Rattle.copies.specs.Messages.{Item, Bundle, Command, Reply, Session, Recovery, level, recovers, Told, unused, Status}
@@ -116,3 +116,12 @@ Replicated = (O R : Type 0) (sv : Service O R) (kp : Keeper sv) (ok : Guard sv k
 -- busy is said only at once, and only where eight wait, whatever packet comes
 abbrev pub BusyOnly : Type 1
 BusyOnly = (O R : Type 0) (sv : Service O R) (kp : Keeper sv) (ok : Guard sv kp) → Lawful sv → PureBusy sv.busy (replicated sv kp ok)
+
+-- How many steps answering takes, where a pass of catching up has at most so many parts after its first: each of 49 houses may send two bundles.
+abbrev pub steps_for : (most : ℕ) → ℕ
+steps_for most = 98 * (24 * most + 66)
+
+-- With any one house out, all calls that wait at the others can be answered.
+abbrev pub ReplicatedAnswers : Type 1
+ReplicatedAnswers =
+    (O R : Type 0) (sv : Service O R) (kp : Keeper sv) (ok : Guard sv kp) → Lawful sv → (keeps : Keeps sv kp) → ((x : In (Messages sv kp) O) (m : Memory O) (d : Disks sv kp) → ok x m d ≡ true) → PureAnswers (steps_for keeps.most) (replicated sv kp ok)

@@ -33,3 +33,4 @@ pub mod Meets
 pub mod Help
 pub mod Attempts
 pub mod Open
+pub mod Answered

@@ -142,7 +142,7 @@ drops n (x ∷ l) u = go (drops n l u.1)
         by_test (λ (k : List ℕ). Dropped n (x ∷ l) k) (eqb x n) (λ e. record { inside = λ y m. (Memᴰ.tail m, λ f. u.0 y m (f ∙ sym (eqb-true _ _ e))); unlike = u.1; long = omega arith })
         (λ e. record { inside = λ y m. elim (Memᴰ.cases_cons m) [ inl f ↦ (Memᴰ.head f, λ g. eqb-false _ _ e (sym f ∙ g)) | inr k ↦ (Memᴰ.tail (d.inside y k).0, (d.inside y k).1) ]; unlike = (λ y m. u.0 y (d.inside y m).0, d.unlike); long = omega (arith, d.long) })
 
-hole : (n : ℕ) (l : List ℕ) → Unlike l → ((x : ℕ) → Memᴰ x l → x < n) → length l ≤ n
+pub hole : (n : ℕ) (l : List ℕ) → Unlike l → ((x : ℕ) → Memᴰ x l → x < n) → length l ≤ n
 hole zero [] u f = omega arith
 hole zero (x ∷ l) u f = absurd (omega (arith, f x (Memᴰ.head refl)))
 hole (suc n) l u f = let d = drops n l u in let h = hole n (drop n l) d.unlike (λ x m. let z = d.inside x m in omega (arith, f x z.0, z.1)) in omega (arith, d.long, h)
