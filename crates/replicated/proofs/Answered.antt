@@ -14,7 +14,7 @@ use Rattle.copies.specs.House.{Disks, Messages, Guard, replicated, wakes}
 use Rattle.copies.specs.Promise.{steps_for, ReplicatedAnswers}
 use Rattle.replicated.proofs.Lists.{put_here, put_other}
 use Rattle.replicated.proofs.Events.{reached}
-use Rattle.replicated.proofs.Now.{Wor, Sure, Now}
+use Rattle.replicated.proofs.Now.{Wor, Sure, Alone, Now}
 use Rattle.replicated.proofs.Attempts.{End, attempt}
 use Rattle.replicated.proofs.Open.{none_off, none_free}
 use Rattle.replicated.proofs.Runs.{helped_then, pending_in, kept_or_told, Two, two, inside_low, distinct_apart, hole}
@@ -48,18 +48,19 @@ module _ {O R : Type 0} (sv : Service O R) (kp : Keeper sv) (laws : Lawful sv) (
   copies : Two group
   copies = two all three group di ins long
 
-  abbrev N : List (Seen O R) → Wor sv kp → Type 0
-  N es w = Now sv kp ok lets all group es w
+  -- from world w on
+  abbrev from : List (Seen O R) → Wor sv kp → Alone sv kp
+  from es w = record { keeps = keeps; ok = ok; lets = lets; all = all; three = three; group = group; es = es; w = w; sure = sure }
 
-  record Raised (es : List (Seen O R)) (w : Wor sv kp) (n : N es w) (x : ℕ) : Type 0 where
-    pub then : N es w
+  record Raised (es : List (Seen O R)) (w : Wor sv kp) (n : Now (from es w)) (x : ℕ) : Type 0 where
+    pub then : Now (from es w)
     pub m : Memory O
     pub d : Disks sv kp
     pub is : then.v.house x ≡ on m d
     pub there : (j : ℕ) → j ≢ x → then.v.house j ≡ n.v.house j
     pub cost : then.steps ≤ 1 + n.steps
 
-  raise : (es : List (Seen O R)) (w : Wor sv kp) (n : N es w) (x : ℕ) → Memᴰ x group → Raised es w n x
+  raise : (es : List (Seen O R)) (w : Wor sv kp) (n : Now (from es w)) (x : ℕ) → Memᴰ x group → Raised es w n x
   raise es w n x g = go (n.v.house x) refl
     where
       go : (s : Stand (Memory O) (Disks sv kp)) → n.v.house x ≡ s → Raised es w n x
@@ -73,17 +74,14 @@ module _ {O R : Type 0} (sv : Service O R) (kp : Keeper sv) (laws : Lawful sv) (
       }
       go (on m d) e = record { then = n; m = m; d = d; is = e; there = λ j _. refl; cost = omega arith }
 
-  Ended : (es : List (Seen O R)) (w : Wor sv kp) → Trace (replicated sv kp ok) all es w → (i : ℕ) (gi : Memᴰ i group) (m0 : Memory O) (d0 : Disks sv kp) (b : Bundle O) (e0 : w.house i ≡ on m0 d0) (w0 : m0.way ≡ under b) → Type 0
-  Ended es w t i gi m0 d0 b e0 w0 = End sv kp keeps ok lets all group es w three sure i gi (inside_low all group ins i gi) m0 d0 b e0 w0 Once
-
-  tries : (es : List (Seen O R)) (w : Wor sv kp) (t : Trace (replicated sv kp ok) all es w) (i : ℕ) (gi : Memᴰ i group) (m0 : Memory O) (d0 : Disks sv kp) (b : Bundle O) (e0 : w.house i ≡ on m0 d0) (w0 : m0.way ≡ under b) → End sv kp keeps ok lets all group es w three sure i gi (inside_low all group ins i gi) m0 d0 b e0 w0 Once
+  tries : (es : List (Seen O R)) (w : Wor sv kp) (t : Trace (replicated sv kp ok) all es w) (i : ℕ) (gi : Memᴰ i group) (m0 : Memory O) (d0 : Disks sv kp) (b : Bundle O) (e0 : w.house i ≡ on m0 d0) (w0 : m0.way ≡ under b) → End (from es w) i gi (inside_low all group ins i gi) m0 d0 b e0 w0 Once
   tries es w t i gi m0 d0 b e0 w0 = one (raise es w n copies.x copies.gx)
     where
-      n : N es w
+      n : Now (from es w)
       n = record { fs = es; v = w; steps = 0; run = still; trace = t; news = []; wire_is = refl }
 
       E : ℕ → Type 0
-      E k = End sv kp keeps ok lets all group es w three sure i gi (inside_low all group ins i gi) m0 d0 b e0 w0 k
+      E k = End (from es w) i gi (inside_low all group ins i gi) m0 d0 b e0 w0 k
 
       done : (k : ℕ) → k ≤ Once → E k → E Once
       done k l e = record { then = e.then; m = e.m; d = e.d; is = e.is; none = e.none; over = e.over; cost = omega (arith, e.cost, l) }
@@ -91,7 +89,7 @@ module _ {O R : Type 0} (sv : Service O R) (kp : Keeper sv) (laws : Lawful sv) (
       two' : (a : Raised es w n copies.x) → Raised es w a.then copies.y → E Once
       two' a c =
           done (24 * keeps.most + 64 + c.then.steps) (omega (arith, c.cost, a.cost))
-          (attempt sv kp keeps ok lets all group es w three sure i gi (inside_low all group ins i gi) m0 d0 b e0 w0 copies.x copies.y (record { gx = copies.gx; gy = copies.gy; lx = copies.lx; ly = copies.ly; ne = copies.ne }) c.then a.m c.m a.d c.d (c.there copies.x (λ e. copies.ne (sym e)) ∙ a.is) c.is)
+          (attempt (from es w) i gi (inside_low all group ins i gi) m0 d0 b e0 w0 copies.x copies.y (record { gx = copies.gx; gy = copies.gy; lx = copies.lx; ly = copies.ly; ne = copies.ne }) c.then a.m c.m a.d c.d (c.there copies.x (λ e. copies.ne (sym e)) ∙ a.is) c.is)
 
       one : Raised es w n copies.x → E Once
       one a = two' a (raise es w a.then copies.y copies.gy)
@@ -110,7 +108,7 @@ module _ {O R : Type 0} (sv : Service O R) (kp : Keeper sv) (laws : Lawful sv) (
   first es w t i gi m d e free f = record { fs = es; v = w; steps = 0; run = still; trace = t; is = none_free sv kp ok lets all t i m d e f; cost = omega arith }
   first es w t i gi m d e (under b) f = go (tries es w t i gi m d b e f)
     where
-      go : End sv kp keeps ok lets all group es w three sure i gi (inside_low all group ins i gi) m d b e f Once → Run Twice es w (Quiet i)
+      go : End (from es w) i gi (inside_low all group ins i gi) m d b e f Once → Run Twice es w (Quiet i)
       go z = by_second (second z.then.fs z.then.v z.then.trace i gi z.m z.d z.is z.none z.m.way refl)
         where
           by_second : Run Once z.then.fs z.then.v (Quiet i) → Run Twice es w (Quiet i)

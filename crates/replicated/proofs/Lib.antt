@@ -33,4 +33,5 @@ pub mod Meets
 pub mod Help
 pub mod Attempts
 pub mod Open
+
 pub mod Answered

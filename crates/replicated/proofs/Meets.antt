@@ -17,23 +17,13 @@ use Rattle.replicated.proofs.Good.{Ok, OkOn, Lags}
 use Rattle.replicated.proofs.Turns.{Reaches}
 use Rattle.replicated.proofs.Heard.{next_own, tick_waits, tick_elects, tick_led, heard_is, Light, Evened, hears_evened, hears_same, Learned, Nearer, hears_nearer, hears_told, Answering, tells_left}
 use Rattle.replicated.proofs.Parted.{turn_of, told_is, Gone, light_gone, Resumed, recovers_left}
-use Rattle.replicated.proofs.Now.{Wor, Sure, stands, Now, Pair, Step, swap, tick_x, hear_x, step_to, Facts, facts, said}
+use Rattle.replicated.proofs.Now.{Wor, Sure, Alone, stands, Now, Pair, Step, swap, tick_x, hear_x, step_to, Facts, facts, said}
 use Rattle.replicated.proofs.Passes.{Ended, Wanting, resumes, ends_level, Both, catches}
 
-module _ {O R : Type 0} (sv : Service O R) (kp : Keeper sv) (keeps : Keeps sv kp) (ok : Guard sv kp) (lets : (x : In (Messages sv kp) O) (m : Memory O) (d : Disks sv kp) → ok x m d ≡ true) (all : ℕ) (group : List ℕ) (es : List (Seen O R)) (w : Wor sv kp) (three : 3 ≤ all)
-    (sure : (fs : List (Seen O R)) (v : Wor sv kp) → Trace (replicated sv kp ok) all fs v → Sure sv kp v) where
-  abbrev N : Type 0
-  N = Now sv kp ok lets all group es w
-
-  abbrev Two : ℕ → ℕ → Type 0
-  Two x y = Pair sv kp ok lets all group es w three x y
-
-  abbrev turned : {x y : ℕ} → Two x y → Two y x
-  turned p = swap sv kp ok lets all group es w three p
-
+module _ {O R : Type 0} {sv : Service O R} {kp : Keeper sv} (alone : Alone sv kp) where
   -- x, which doesn't lead, elects itself
-  pub record Elects (n : N) (k x y : ℕ) (mx : Memory O) (dx : Disks sv kp) (my : Memory O) (dy : Disks sv kp) : Type 0 where
-    pub then : N
+  pub record Elects (n : Now alone) (k x y : ℕ) (mx : Memory O) (dx : Disks sv kp) (my : Memory O) (dy : Disks sv kp) : Type 0 where
+    pub then : Now alone
     pub m : Memory O
     pub d : Disks sv kp
     pub p : ℕ
@@ -49,10 +39,10 @@ module _ {O R : Type 0} (sv : Service O R) (kp : Keeper sv) (keeps : Keeps sv kp
     pub heard : (b : Bundle O) → b.house ≢ x → Memᴰ b mx.heard → Memᴰ b m.heard
     pub cost : then.steps ≤ k + n.steps
 
-  elects_now : (k : ℕ) {x y : ℕ} → Two x y → (n : N) (mx my : Memory O) (dx dy : Disks sv kp) → n.v.house x ≡ on mx dx → n.v.house y ≡ on my dy → dx.agreeing.recovery ≡ level → mx.lead ≢ suc dx.agreeing.promised → patience mx.me ≤ suc mx.quiet → Elects n (suc k) x y mx dx my dy
+  elects_now : (k : ℕ) {x y : ℕ} → Pair alone x y → (n : Now alone) (mx my : Memory O) (dx dy : Disks sv kp) → n.v.house x ≡ on mx dx → n.v.house y ≡ on my dy → dx.agreeing.recovery ≡ level → mx.lead ≢ suc dx.agreeing.promised → patience mx.me ≤ suc mx.quiet → Elects n (suc k) x y mx dx my dy
   elects_now k {x} {y} p n mx my dx dy ex ey v nl q =
-      let f = facts sv kp ok lets all group es w three sure n x mx dx p.lx ex in
-      let s = tick_x sv kp ok lets all group es w three p n ex ey in
+      let f = facts alone n x mx dx p.lx ex in
+      let s = tick_x alone p n ex ey in
       let t = tick_elects (turn_of sv kp mx dx) (omega (arith, p.lx, f.me_is)) v f.low nl q in
       record {
         then = s.then;
@@ -66,15 +56,15 @@ module _ {O R : Type 0} (sv : Service O R) (kp : Keeper sv) (keeps : Keeps sv kp
         own = next_own mx.me dx.agreeing.promised (omega (arith, p.lx, f.me_is)) ∙ f.me_is;
         over = omega arith;
         rank_low = λ e. absurd (omega (arith, e, f.rank_low));
-        said = subst (λ (a : Agreeing O). Memᴰ (record { to = y; from = x; what = Told (status_now sv kp a) }) s.then.news) t.agreeing_is (said sv kp ok lets all group es w three sure p s (t.says y));
+        said = subst (λ (a : Agreeing O). Memᴰ (record { to = y; from = x; what = Told (status_now sv kp a) }) s.then.news) t.agreeing_is (said alone p s (t.says y));
         not_led = λ e. absurd (omega (arith, e, t.lead_is, f.low));
         heard = λ b o m. t.heard b (λ e. o (e ∙ f.me_is)) m;
         cost = omega (arith, s.cost);
       }
 
   -- x, which doesn't lead, waits for a tick
-  record Waits (n : N) (x y : ℕ) (mx : Memory O) (dx : Disks sv kp) (my : Memory O) (dy : Disks sv kp) : Type 0 where
-    pub then : N
+  record Waits (n : Now alone) (x y : ℕ) (mx : Memory O) (dx : Disks sv kp) (my : Memory O) (dy : Disks sv kp) : Type 0 where
+    pub then : Now alone
     pub m : Memory O
     pub d : Disks sv kp
     pub x_is : then.v.house x ≡ on m d
@@ -87,15 +77,15 @@ module _ {O R : Type 0} (sv : Service O R) (kp : Keeper sv) (keeps : Keeps sv kp
     pub heard : (b : Bundle O) → b.house ≢ x → Memᴰ b mx.heard → Memᴰ b m.heard
     pub cost : then.steps ≡ suc n.steps
 
-  waits_x : {x y : ℕ} → Two x y → (n : N) (mx my : Memory O) (dx dy : Disks sv kp) → n.v.house x ≡ on mx dx → n.v.house y ≡ on my dy → dx.agreeing.recovery ≡ level → mx.lead ≢ suc dx.agreeing.promised → suc mx.quiet < patience mx.me → Waits n x y mx dx my dy
+  waits_x : {x y : ℕ} → Pair alone x y → (n : Now alone) (mx my : Memory O) (dx dy : Disks sv kp) → n.v.house x ≡ on mx dx → n.v.house y ≡ on my dy → dx.agreeing.recovery ≡ level → mx.lead ≢ suc dx.agreeing.promised → suc mx.quiet < patience mx.me → Waits n x y mx dx my dy
   waits_x {x} {y} p n mx my dx dy ex ey v nl q =
-      let f = facts sv kp ok lets all group es w three sure n x mx dx p.lx ex in
-      let s = tick_x sv kp ok lets all group es w three p n ex ey in
+      let f = facts alone n x mx dx p.lx ex in
+      let s = tick_x alone p n ex ey in
       let t = tick_waits (turn_of sv kp mx dx) (omega (arith, p.lx, f.me_is)) v nl q in
-      let g = facts sv kp ok lets all group es w three sure s.then x _ _ p.lx s.x_is in
+      let g = facts alone s.then x _ _ p.lx s.x_is in
       record { then = s.then; m = _; d = _; x_is = s.x_is; y_is = s.y_is; agreeing_is = t.agreeing_is; sessions_is = t.sessions_is; lead_is = t.lead_is; me_is = g.me_is ∙ sym f.me_is; quiet_is = t.quiet_is; heard = λ b o m. t.heard b (λ e. o (e ∙ f.me_is)) m; cost = s.cost }
 
-  later : (k : ℕ) {x y : ℕ} (n : N) (mx my : Memory O) (dx dy : Disks sv kp) (t : Waits n x y mx dx my dy) → Elects t.then k x y t.m t.d my dy → Elects n (suc k) x y mx dx my dy
+  later : (k : ℕ) {x y : ℕ} (n : Now alone) (mx my : Memory O) (dx dy : Disks sv kp) (t : Waits n x y mx dx my dy) → Elects t.then k x y t.m t.d my dy → Elects n (suc k) x y mx dx my dy
   later k {x} {y} n mx my dx dy t r =
       record {
         then = r.then;
@@ -115,7 +105,7 @@ module _ {O R : Type 0} (sv : Service O R) (kp : Keeper sv) (keeps : Keeps sv kp
         cost = omega (arith, r.cost, t.cost);
       }
 
-  rouses : (k : ℕ) {x y : ℕ} → Two x y → (n : N) (mx my : Memory O) (dx dy : Disks sv kp) → n.v.house x ≡ on mx dx → n.v.house y ≡ on my dy → dx.agreeing.recovery ≡ level → mx.lead ≢ suc dx.agreeing.promised → patience mx.me ≤ suc mx.quiet + k → Elects n (suc k) x y mx dx my dy
+  rouses : (k : ℕ) {x y : ℕ} → Pair alone x y → (n : Now alone) (mx my : Memory O) (dx dy : Disks sv kp) → n.v.house x ≡ on mx dx → n.v.house y ≡ on my dy → dx.agreeing.recovery ≡ level → mx.lead ≢ suc dx.agreeing.promised → patience mx.me ≤ suc mx.quiet + k → Elects n (suc k) x y mx dx my dy
   rouses zero p n mx my dx dy ex ey v nl pa = elects_now zero p n mx my dx dy ex ey v nl (omega (arith, pa))
   rouses (suc k) p n mx my dx dy ex ey v nl pa = elim (dec_le (patience mx.me) (suc mx.quiet)) [
     | yes q ↦ elects_now (suc k) p n mx my dx dy ex ey v nl q
@@ -124,12 +114,12 @@ module _ {O R : Type 0} (sv : Service O R) (kp : Keeper sv) (keeps : Keeps sv kp
         later (suc k) n mx my dx dy t (rouses k p t.then t.m my t.d dy t.x_is t.y_is (ap (λ (a : Agreeing O). a.recovery) t.agreeing_is ∙ v) (λ e. nl (sym t.lead_is ∙ e ∙ ap (λ (a : Agreeing O). suc a.promised) t.agreeing_is)) (omega (arith, pa, t.quiet_is, t.me_is)))
   ]
 
-  pub elects_x : {x y : ℕ} → Two x y → (n : N) (mx my : Memory O) (dx dy : Disks sv kp) → n.v.house x ≡ on mx dx → n.v.house y ≡ on my dy → dx.agreeing.recovery ≡ level → mx.lead ≢ suc dx.agreeing.promised → Elects n 4 x y mx dx my dy
-  elects_x {x} p n mx my dx dy ex ey v nl = let f = facts sv kp ok lets all group es w three sure n x mx dx p.lx ex in rouses 3 p n mx my dx dy ex ey v nl (omega (arith, f.me_is, p.lx))
+  pub elects_x : {x y : ℕ} → Pair alone x y → (n : Now alone) (mx my : Memory O) (dx dy : Disks sv kp) → n.v.house x ≡ on mx dx → n.v.house y ≡ on my dy → dx.agreeing.recovery ≡ level → mx.lead ≢ suc dx.agreeing.promised → Elects n 4 x y mx dx my dy
+  elects_x {x} p n mx my dx dy ex ey v nl = let f = facts alone n x mx dx p.lx ex in rouses 3 p n mx my dx dy ex ey v nl (omega (arith, f.me_is, p.lx))
 
   -- x, which is level, says its status under its own ballot
-  record Spoke (n : N) (x y : ℕ) (mx : Memory O) (dx : Disks sv kp) (my : Memory O) (dy : Disks sv kp) : Type 0 where
-    pub then : N
+  record Spoke (n : Now alone) (x y : ℕ) (mx : Memory O) (dx : Disks sv kp) (my : Memory O) (dy : Disks sv kp) : Type 0 where
+    pub then : Now alone
     pub m : Memory O
     pub d : Disks sv kp
     pub x_is : then.v.house x ≡ on m d
@@ -142,11 +132,11 @@ module _ {O R : Type 0} (sv : Service O R) (kp : Keeper sv) (keeps : Keeps sv kp
     pub free : mx.lead ≢ suc dx.agreeing.promised → (m.lead ≢ suc d.agreeing.promised) × (rank d.agreeing.proposal < suc d.agreeing.promised)
     pub cost : then.steps ≤ 4 + n.steps
 
-  speaks : {x y : ℕ} → Two x y → (n : N) (mx my : Memory O) (dx dy : Disks sv kp) → n.v.house x ≡ on mx dx → n.v.house y ≡ on my dy → dx.agreeing.recovery ≡ level → Spoke n x y mx dx my dy
+  speaks : {x y : ℕ} → Pair alone x y → (n : Now alone) (mx my : Memory O) (dx dy : Disks sv kp) → n.v.house x ≡ on mx dx → n.v.house y ≡ on my dy → dx.agreeing.recovery ≡ level → Spoke n x y mx dx my dy
   speaks {x} {y} p n mx my dx dy ex ey v = elim (ℕ_discrete mx.lead (suc dx.agreeing.promised)) [
     | yes e ↦
-        let f = facts sv kp ok lets all group es w three sure n x mx dx p.lx ex in
-        let s = tick_x sv kp ok lets all group es w three p n ex ey in
+        let f = facts alone n x mx dx p.lx ex in
+        let s = tick_x alone p n ex ey in
         let t = tick_led (turn_of sv kp mx dx) y (omega (arith, p.lx, f.me_is)) v e in
         record {
           then = s.then;
@@ -158,12 +148,12 @@ module _ {O R : Type 0} (sv : Service O R) (kp : Keeper sv) (keeps : Keeps sv kp
           ver_is = t.stands.ver_is;
           low = omega (arith, t.prom_is);
           own = ap (λ k. k % 3) t.prom_is ∙ f.own e;
-          said = said sv kp ok lets all group es w three sure p s t.says;
+          said = said alone p s t.says;
           free = λ n. absurd (n e);
           cost = omega (arith, s.cost);
         }
     | no nl ↦
-        let f = facts sv kp ok lets all group es w three sure n x mx dx p.lx ex in
+        let f = facts alone n x mx dx p.lx ex in
         let r = elects_x p n mx my dx dy ex ey v nl in
         let pr = ap (λ (a : Agreeing O). a.promised) r.agreeing_is in
         record {
@@ -183,8 +173,8 @@ module _ {O R : Type 0} (sv : Service O R) (kp : Keeper sv) (keeps : Keeps sv kp
   ]
 
   -- y heard of x, and is level and no less far
-  pub record Met (n : N) (x y : ℕ) (mx0 : Memory O) (dx0 dy0 : Disks sv kp) : Type 0 where
-    pub then : N
+  pub record Met (n : Now alone) (x y : ℕ) (mx0 : Memory O) (dx0 dy0 : Disks sv kp) : Type 0 where
+    pub then : Now alone
     pub mx : Memory O
     pub dx : Disks sv kp
     pub my : Memory O
@@ -200,9 +190,9 @@ module _ {O R : Type 0} (sv : Service O R) (kp : Keeper sv) (keeps : Keeps sv kp
     pub prom_is : dy.agreeing.promised ≡ max dy0.agreeing.promised dx.agreeing.promised
     pub not_led : mx0.lead ≢ suc dx0.agreeing.promised → mx.lead ≢ suc dx.agreeing.promised
     pub as_far : mx0.lead ≢ suc dx0.agreeing.promised → dy0.agreeing.version ≤ dx0.agreeing.version → dy.agreeing.version ≡ dx.agreeing.version
-    pub cost : then.steps ≤ 6 * keeps.most + 11 + n.steps
+    pub cost : then.steps ≤ 6 * alone.keeps.most + 11 + n.steps
 
-  pub meets : {x y : ℕ} → Two x y → (n : N) (mx my : Memory O) (dx dy : Disks sv kp) → n.v.house x ≡ on mx dx → n.v.house y ≡ on my dy → dx.agreeing.recovery ≡ level → dy.agreeing.recovery ≡ level → Met n x y mx dx dy
+  pub meets : {x y : ℕ} → Pair alone x y → (n : Now alone) (mx my : Memory O) (dx dy : Disks sv kp) → n.v.house x ≡ on mx dx → n.v.house y ≡ on my dy → dx.agreeing.recovery ≡ level → dy.agreeing.recovery ≡ level → Met n x y mx dx dy
   meets {x} {y} p n mx my dx dy ex ey vx vy = go (speaks p n mx my dx dy ex ey vx)
     where
       go : Spoke n x y mx dx my dy → Met n x y mx dx dy
@@ -214,14 +204,14 @@ module _ {O R : Type 0} (sv : Service O R) (kp : Keeper sv) (keeps : Keeps sv kp
           q : ℕ
           q = max dy.agreeing.promised s.d.agreeing.promised
 
-          f : Facts sv kp ok lets all group es w three sure y my dy
-          f = facts sv kp ok lets all group es w three sure s.then y my dy p.ly s.y_is
+          f : Facts alone y my dy
+          f = facts alone s.then y my dy p.ly s.y_is
 
           z : Wholes sv kp
           z = got sv kp x (Told X) (begins sv kp my dy)
 
-          h : Step sv kp ok lets all group es w three s.then y x z s.m s.d
-          h = hear_x sv kp ok lets all group es w three (turned p) s.then s.y_is s.x_is (Told X) s.said
+          h : Step alone s.then y x z s.m s.d
+          h = hear_x alone (swap alone p) s.then s.y_is s.x_is (Told X) s.said
 
           t : Turn sv.Rest sv.Block O sv.A
           t = noted x X (turn_of sv kp my dy)
@@ -241,9 +231,9 @@ module _ {O R : Type 0} (sv : Service O R) (kp : Keeper sv) (keeps : Keeps sv kp
           nearer l (inl a) = let g = light_gone sv kp (on_status x X (turn_of sv kp my dy)) (begins sv kp my dy) a.light in
               stepped (g.prom_is ∙ a.prom_is) (g.rec_is ∙ a.rec_is ∙ vy) (omega (arith, g.ver_is, a.ver_is)) (λ _ _. g.ver_is ∙ a.ver_is)
           nearer l (inr a) =
-              let b = step_to sv kp ok lets all group es w three (ap (λ (u : Turn sv.Rest sv.Block O sv.A). on_turn sv kp goes_on (works sv kp (with_turn sv kp u (begins sv kp my dy)))) a) h in
+              let b = step_to alone (ap (λ (u : Turn sv.Rest sv.Block O sv.A). on_turn sv kp goes_on (works sv kp (with_turn sv kp u (begins sv kp my dy)))) a) h in
               let c = recovers_left sv kp x q t (begins sv kp my dy) refl in
-              let e = ends_level sv kp keeps ok lets all group es w three sure (turned p) b.then _ _ s.m s.d (resumes sv kp keeps ok lets all group es w three sure (turned p) s.then _ s.m s.d b q dy.agreeing.version 0 dy.kept unseen c s.level_is (omega (arith, l)) (omega arith)) in
+              let e = ends_level alone (swap alone p) b.then _ _ s.m s.d (resumes alone (swap alone p) s.then _ s.m s.d b q dy.agreeing.version 0 dy.kept unseen c s.level_is (omega (arith, l)) (omega arith)) in
               record {
                 then = e.then; mx = s.m; dx = s.d; my = e.m; dy = e.d; x_is = e.s_is; y_is = e.c_is; x_level = s.level_is; y_level = e.level_is;
                 ver_is = s.ver_is; far = omega (arith, e.ver_is); low = s.low; own = s.own; prom_is = e.prom_is ∙ c.prom_is; not_led = λ o. (s.free o).0; as_far = λ _ _. e.ver_is; cost = omega (arith, e.cost, h.cost, b.cost, s.cost);

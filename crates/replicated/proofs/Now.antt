@@ -10,7 +10,7 @@ use Rattle.agreement.proofs.Base.{Snap}
 use Rattle.agreement.proofs.Inv.{Inv}
 use Rattle.disks.specs.Cluster.{In, From, Tick, Out, Tell, Seen, Packet, put, packets}
 use Rattle.compose.specs.Pure.{Stand, off, on, World, Trace, does, ticks, after, PureHelped, still, rising, doing, ticking}
-use Rattle.copies.specs.Service.{Service, Keeper}
+use Rattle.copies.specs.Service.{Service, Keeper, Keeps}
 use Rattle.copies.specs.Messages.{Item, Bundle, Command, Reply, Session, Recovery, level, recovers, Agreeing, Status, Told, Asked, Given}
 use Rattle.copies.specs.Copy.{Way, free, under, Memory, Pass, Whom, Serve}
 use Rattle.copies.specs.House.{Disks, Wholes, Messages, Post, Ended, status_now, want_of, part_of, posts, posted, outs, begins, disk_of, finishes, got, ticked, acts, Guard, behaves, replicated}
@@ -62,127 +62,136 @@ module _ {O R : Type 0} (sv : Service O R) (kp : Keeper sv) where
   abbrev pub stands : Wholes sv kp → Stand (Memory O) (Disks sv kp)
   stands z = on z.turn.memory (disk_of sv kp z)
 
-  module _ (ok : Guard sv kp) (lets : (x : In (Messages sv kp) O) (m : Memory O) (d : Disks sv kp) → ok x m d ≡ true) where
-    behaves_is : (x : In (Messages sv kp) O) (m : Memory O) (d : Disks sv kp) → behaves sv kp ok x m d ≡ acts sv kp x m d
-    unfolding behaves
-    behaves_is x m d = rw (lets x m d) refl
+  -- From world w on, houses of a group are alone: nobody else helps, and no packet sent before comes. Each lets every event happen.
+  pub record Alone : Type 1 where
+    pub keeps : Keeps sv kp
+    pub ok : Guard sv kp
+    pub lets : (x : In (Messages sv kp) O) (m : Memory O) (d : Disks sv kp) → ok x m d ≡ true
+    pub all : ℕ
+    pub three : 3 ≤ all
+    pub group : List ℕ
+    pub es : List (Seen O R)
+    pub w : Wor
+    pub sure : (fs : List (Seen O R)) (v : Wor) → Trace (replicated sv kp ok) all fs v → Sure v
 
-    pub tick_is : (m : Memory O) (d : Disks sv kp) → behaves sv kp ok Tick m d ≡ finishes sv kp (ticked sv kp (begins sv kp m d))
-    unfolding acts
-    tick_is m d = behaves_is Tick m d
+module _ {O R : Type 0} {sv : Service O R} {kp : Keeper sv} (alone : Alone sv kp) where
+  behaves_is : (x : In (Messages sv kp) O) (m : Memory O) (d : Disks sv kp) → behaves sv kp alone.ok x m d ≡ acts sv kp x m d
+  unfolding behaves
+  behaves_is x m d = rw (alone.lets x m d) refl
 
-    pub from_is : (r : ℕ) (x : Messages sv kp) (m : Memory O) (d : Disks sv kp) → behaves sv kp ok (From r x) m d ≡ finishes sv kp (got sv kp r x (begins sv kp m d))
-    unfolding acts
-    from_is r x m d = behaves_is (From r x) m d
+  pub tick_is : (m : Memory O) (d : Disks sv kp) → behaves sv kp alone.ok Tick m d ≡ finishes sv kp (ticked sv kp (begins sv kp m d))
+  unfolding acts
+  tick_is m d = behaves_is Tick m d
 
-    module _ (all : ℕ) (group : List ℕ) (es : List (Seen O R)) (w : Wor) where
-      pub record Now : Type 0 where
-        pub fs : List (Seen O R)
-        pub v : Wor
-        pub steps : ℕ
-        pub run : PureHelped (replicated sv kp ok) all group steps es w fs v
-        pub trace : Trace (replicated sv kp ok) all fs v
-        pub news : List (Packet (Messages sv kp))
-        pub wire_is : v.wire ≡ news ++ w.wire
+  pub from_is : (r : ℕ) (x : Messages sv kp) (m : Memory O) (d : Disks sv kp) → behaves sv kp alone.ok (From r x) m d ≡ finishes sv kp (got sv kp r x (begins sv kp m d))
+  unfolding acts
+  from_is r x m d = behaves_is (From r x) m d
 
-      -- house i went on to z
-      pub record Moved (n : Now) (i : ℕ) (z : Wholes sv kp) : Type 0 where
-        pub then : Now
-        pub here : then.v.house i ≡ stands z
-        pub there : (j : ℕ) → j ≢ i → then.v.house j ≡ n.v.house j
-        pub new : (q : Pos sv kp) → Memᴰ q (posts sv kp z) → Memᴰ (packet_of i q) then.news
-        pub kept : (p : Packet (Messages sv kp)) → Memᴰ p n.news → Memᴰ p then.news
-        pub cost : then.steps ≡ suc n.steps
+  pub record Now : Type 0 where
+    pub fs : List (Seen O R)
+    pub v : Wor sv kp
+    pub steps : ℕ
+    pub run : PureHelped (replicated sv kp alone.ok) alone.all alone.group steps alone.es alone.w fs v
+    pub trace : Trace (replicated sv kp alone.ok) alone.all fs v
+    pub news : List (Packet (Messages sv kp))
+    pub wire_is : v.wire ≡ news ++ alone.w.wire
 
-      moved : (n : Now) (i : ℕ) (z : Wholes sv kp) (y : Ended sv kp) → y ≡ finishes sv kp z → (fs : List (Seen O R)) → PureHelped (replicated sv kp ok) all group (suc n.steps) es w fs (after (replicated sv kp ok) i y n.v) → Trace (replicated sv kp ok) all fs (after (replicated sv kp ok) i y n.v) → Moved n i z
-      moved n i z y e fs r tr =
+  -- house i went on to z
+  pub record Moved (n : Now) (i : ℕ) (z : Wholes sv kp) : Type 0 where
+    pub then : Now
+    pub here : then.v.house i ≡ stands sv kp z
+    pub there : (j : ℕ) → j ≢ i → then.v.house j ≡ n.v.house j
+    pub new : (q : Pos sv kp) → Memᴰ q (posts sv kp z) → Memᴰ (packet_of sv kp i q) then.news
+    pub kept : (p : Packet (Messages sv kp)) → Memᴰ p n.news → Memᴰ p then.news
+    pub cost : then.steps ≡ suc n.steps
+
+  moved : (n : Now) (i : ℕ) (z : Wholes sv kp) (y : Ended sv kp) → y ≡ finishes sv kp z → (fs : List (Seen O R)) → PureHelped (replicated sv kp alone.ok) alone.all alone.group (suc n.steps) alone.es alone.w fs (after (replicated sv kp alone.ok) i y n.v) → Trace (replicated sv kp alone.ok) alone.all fs (after (replicated sv kp alone.ok) i y n.v) → Moved n i z
+  moved n i z y e fs r tr =
+      record {
+        then = record { fs = fs; v = after (replicated sv kp alone.ok) i y n.v; steps = suc n.steps; run = r; trace = tr; news = packets i y.out ++ n.news; wire_is = ap (λ l. packets i y.out ++ l) n.wire_is ∙ sym (join_join (packets i y.out) n.news alone.w.wire) };
+        here = put_here i (on y.mem y.stored) n.v.house ∙ ap (λ (x : Ended sv kp). on x.mem x.stored) e;
+        there = λ j ne. put_other i (on y.mem y.stored) n.v.house j ne;
+        new = λ q m. Memᴰ.append_left _ (subst (λ (x : Ended sv kp). Memᴰ (packet_of sv kp i q) (packets i x.out)) (sym e) (outs_in sv kp i (packet_of sv kp i q) z.turn.told (posted sv kp (posts sv kp z)) (posted_in sv kp i q (posts sv kp z) m)));
+        kept = λ p m. Memᴰ.append_right _ m;
+        cost = refl;
+      }
+
+  pub ticks_on : (n : Now) (i : ℕ) (m : Memory O) (d : Disks sv kp) → Memᴰ i alone.group → i < alone.all → n.v.house i ≡ on m d → Moved n i (ticked sv kp (begins sv kp m d))
+  ticks_on n i m d g l e = moved n i (ticked sv kp (begins sv kp m d)) (behaves sv kp alone.ok Tick m d) (tick_is m d) _ (ticking i m d g n.run e) (ticks i m d l n.trace e)
+
+  pub hears_on : (n : Now) (i r : ℕ) (x : Messages sv kp) (m : Memory O) (d : Disks sv kp) → Memᴰ i alone.group → Memᴰ r alone.group → i < alone.all → n.v.house i ≡ on m d → Memᴰ (record { to = i; from = r; what = x }) n.news → Moved n i (got sv kp r x (begins sv kp m d))
+  hears_on n i r x m d g h l e k =
+      moved n i (got sv kp r x (begins sv kp m d)) (behaves sv kp alone.ok (From r x) m d) (from_is r x m d) _ (doing i m d (record { to = i; from = r; what = x }) n.news g h n.run e n.wire_is k refl)
+      (does i m d (record { to = i; from = r; what = x }) l n.trace e (subst (λ (z : List (Packet (Messages sv kp))). Memᴰ (record { to = i; from = r; what = x }) z) (sym n.wire_is) (Memᴰ.append_left _ k)) refl)
+
+  pub record Pair (x y : ℕ) : Type 0 where
+    pub gx : Memᴰ x alone.group
+    pub gy : Memᴰ y alone.group
+    pub lx : x < 3
+    pub ly : y < 3
+    pub ne : y ≢ x
+
+  abbrev pub swap : {x y : ℕ} → Pair x y → Pair y x
+  swap p = record { gx = p.gy; gy = p.gx; lx = p.ly; ly = p.lx; ne = λ e. p.ne (sym e) }
+
+  -- x went on to z; y is as it was
+  pub record Step (n : Now) (x y : ℕ) (z : Wholes sv kp) (my : Memory O) (dy : Disks sv kp) : Type 0 where
+    pub then : Now
+    pub x_is : then.v.house x ≡ stands sv kp z
+    pub y_is : then.v.house y ≡ on my dy
+    pub new : (q : Pos sv kp) → Memᴰ q (posts sv kp z) → Memᴰ (packet_of sv kp x q) then.news
+    pub kept : (p : Packet (Messages sv kp)) → Memᴰ p n.news → Memᴰ p then.news
+    pub cost : then.steps ≡ suc n.steps
+
+  pub tick_x : {x y : ℕ} → Pair x y → (n : Now) {mx my : Memory O} {dx dy : Disks sv kp} → n.v.house x ≡ on mx dx → n.v.house y ≡ on my dy → Step n x y (ticked sv kp (begins sv kp mx dx)) my dy
+  tick_x {x} {y} p n {mx} {my} {dx} {dy} ex ey = let s = ticks_on n x mx dx p.gx (omega (arith, p.lx)) ex in record { then = s.then; x_is = s.here; y_is = s.there y p.ne ∙ ey; new = s.new; kept = s.kept; cost = s.cost }
+
+  pub hear_x : {x y : ℕ} → Pair x y → (n : Now) {mx my : Memory O} {dx dy : Disks sv kp} → n.v.house x ≡ on mx dx → n.v.house y ≡ on my dy → (z : Messages sv kp) → Memᴰ (record { to = x; from = y; what = z }) n.news → Step n x y (got sv kp y z (begins sv kp mx dx)) my dy
+  hear_x {x} {y} p n {mx} {my} {dx} {dy} ex ey z k = let s = hears_on n x y z mx dx p.gx p.gy (omega (arith, p.lx)) ex k in record { then = s.then; x_is = s.here; y_is = s.there y p.ne ∙ ey; new = s.new; kept = s.kept; cost = s.cost }
+
+  pub step_to : {n : Now} {x y : ℕ} {z z' : Wholes sv kp} {my : Memory O} {dy : Disks sv kp} → z ≡ z' → Step n x y z my dy → Step n x y z' my dy
+  step_to {n} {x} {y} {z} {z'} {my} {dy} e s = subst (λ (k : Wholes sv kp). Step n x y k my dy) e s
+
+  -- what is so of a copy
+  pub record Facts (j : ℕ) (m : Memory O) (d : Disks sv kp) : Type 0 where
+    pub me_is : m.me ≡ j
+    pub low : m.lead ≤ suc d.agreeing.promised
+    pub own : m.lead ≡ suc d.agreeing.promised → d.agreeing.promised % 3 ≡ j
+    pub rank_low : rank d.agreeing.proposal ≤ suc d.agreeing.promised
+
+  pub facts : (n : Now) (j : ℕ) (m : Memory O) (d : Disks sv kp) → j < 3 → n.v.house j ≡ on m d → Facts j m d
+  facts n j m d l e = go (alone.sure n.fs n.v n.trace).g (alone.sure n.fs n.v n.trace).inv (subst (Ok sv kp (alone.sure n.fs n.v n.trace).g (alone.sure n.fs n.v n.trace).asked (alone.sure n.fs n.v n.trace).made j) e ((alone.sure n.fs n.v n.trace).house j))
+    where
+      go : (g : Copies.World (Command O)) → Inv g → OkOn sv kp g (alone.sure n.fs n.v n.trace).asked (alone.sure n.fs n.v n.trace).made j m d → Facts j m d
+      go g i o =
           record {
-            then = record { fs = fs; v = after (replicated sv kp ok) i y n.v; steps = suc n.steps; run = r; trace = tr; news = packets i y.out ++ n.news; wire_is = ap (λ l. packets i y.out ++ l) n.wire_is ∙ sym (join_join (packets i y.out) n.news w.wire) };
-            here = put_here i (on y.mem y.stored) n.v.house ∙ ap (λ (x : Ended sv kp). on x.mem x.stored) e;
-            there = λ j ne. put_other i (on y.mem y.stored) n.v.house j ne;
-            new = λ q m. Memᴰ.append_left _ (subst (λ (x : Ended sv kp). Memᴰ (packet_of i q) (packets i x.out)) (sym e) (outs_in i (packet_of i q) z.turn.told (posted sv kp (posts sv kp z)) (posted_in i q (posts sv kp z) m)));
-            kept = λ p m. Memᴰ.append_right _ m;
-            cost = refl;
+            me_is = o.me_is;
+            low = low m.lead refl;
+            own = λ z. ap (λ k. k % 3) prom_is ∙ ((o.lead_is l d.agreeing.promised z).now prom_is).owner;
+            rank_low = rank_low (g.copy j).proposal refl;
           }
+        where
+          prom_is : d.agreeing.promised ≡ (g.copy j).promised
+          prom_is = (o.copy_is l).promised_is
 
-      pub ticks_on : (n : Now) (i : ℕ) (m : Memory O) (d : Disks sv kp) → Memᴰ i group → i < all → n.v.house i ≡ on m d → Moved n i (ticked sv kp (begins sv kp m d))
-      ticks_on n i m d g l e = moved n i (ticked sv kp (begins sv kp m d)) (behaves sv kp ok Tick m d) (tick_is m d) _ (ticking i m d g n.run e) (ticks i m d l n.trace e)
+          low : (k : ℕ) → m.lead ≡ k → m.lead ≤ suc d.agreeing.promised
+          low zero z = omega arith
+          low (suc b) z = omega (arith, prom_is, (o.lead_is l b z).low)
 
-      pub hears_on : (n : Now) (i r : ℕ) (x : Messages sv kp) (m : Memory O) (d : Disks sv kp) → Memᴰ i group → Memᴰ r group → i < all → n.v.house i ≡ on m d → Memᴰ (record { to = i; from = r; what = x }) n.news → Moved n i (got sv kp r x (begins sv kp m d))
-      hears_on n i r x m d g h l e k =
-          moved n i (got sv kp r x (begins sv kp m d)) (behaves sv kp ok (From r x) m d) (from_is r x m d) _ (doing i m d (record { to = i; from = r; what = x }) n.news g h n.run e n.wire_is k refl)
-          (does i m d (record { to = i; from = r; what = x }) l n.trace e (subst (λ (z : List (Packet (Messages sv kp))). Memᴰ (record { to = i; from = r; what = x }) z) (sym n.wire_is) (Memᴰ.append_left _ k)) refl)
+          rank_low : (u : Proposal (Command O)) → (g.copy j).proposal ≡ u → rank d.agreeing.proposal ≤ suc d.agreeing.promised
+          rank_low nothing z = rw ((o.copy_is l).proposal_is ∙ z) (omega arith)
+          rank_low (voted b k) z = rw ((o.copy_is l).proposal_is ∙ z) (omega (arith, prom_is, (i.own j (g.copy j) b k (i.cur j l) z).1))
 
-      module _ (three : 3 ≤ all) where
-        pub record Pair (x y : ℕ) : Type 0 where
-          pub gx : Memᴰ x group
-          pub gy : Memᴰ y group
-          pub lx : x < 3
-          pub ly : y < 3
-          pub ne : y ≢ x
+  -- what is among the news then
+  module _ {x y : ℕ} (p : Pair x y) {n : Now} {z : Wholes sv kp} {my : Memory O} {dy : Disks sv kp} (s : Step n x y z my dy) where
+    me_is : z.turn.memory.me ≡ x
+    me_is = (facts s.then x z.turn.memory (disk_of sv kp z) p.lx s.x_is).me_is
 
-        abbrev pub swap : {x y : ℕ} → Pair x y → Pair y x
-        swap p = record { gx = p.gy; gy = p.gx; lx = p.ly; ly = p.lx; ne = λ e. p.ne (sym e) }
+    pub said : Reaches y z.turn.sends.status → Memᴰ (record { to = y; from = x; what = Told (status_now sv kp z.turn.agreeing) }) s.then.news
+    said r = s.new _ (post_status sv kp z y r p.ly (λ e. p.ne (e ∙ me_is)))
 
-        -- x went on to z; y is as it was
-        pub record Step (n : Now) (x y : ℕ) (z : Wholes sv kp) (my : Memory O) (dy : Disks sv kp) : Type 0 where
-          pub then : Now
-          pub x_is : then.v.house x ≡ stands z
-          pub y_is : then.v.house y ≡ on my dy
-          pub new : (q : Pos sv kp) → Memᴰ q (posts sv kp z) → Memᴰ (packet_of x q) then.news
-          pub kept : (p : Packet (Messages sv kp)) → Memᴰ p n.news → Memᴰ p then.news
-          pub cost : then.steps ≡ suc n.steps
+    pub asked_for : (b t : ℕ) → z.turn.sends.wants ≡ Some y → z.turn.agreeing.recovery ≡ recovers b t → Memᴰ (record { to = y; from = x; what = Asked (want_of sv kp b t z.turn.memory.pass.key) }) s.then.news
+    asked_for b t e f = s.new _ (post_want sv kp z y b t e f)
 
-        pub tick_x : {x y : ℕ} → Pair x y → (n : Now) {mx my : Memory O} {dx dy : Disks sv kp} → n.v.house x ≡ on mx dx → n.v.house y ≡ on my dy → Step n x y (ticked sv kp (begins sv kp mx dx)) my dy
-        tick_x {x} {y} p n {mx} {my} {dx} {dy} ex ey = let s = ticks_on n x mx dx p.gx (omega (arith, p.lx)) ex in record { then = s.then; x_is = s.here; y_is = s.there y p.ne ∙ ey; new = s.new; kept = s.kept; cost = s.cost }
-
-        pub hear_x : {x y : ℕ} → Pair x y → (n : Now) {mx my : Memory O} {dx dy : Disks sv kp} → n.v.house x ≡ on mx dx → n.v.house y ≡ on my dy → (z : Messages sv kp) → Memᴰ (record { to = x; from = y; what = z }) n.news → Step n x y (got sv kp y z (begins sv kp mx dx)) my dy
-        hear_x {x} {y} p n {mx} {my} {dx} {dy} ex ey z k = let s = hears_on n x y z mx dx p.gx p.gy (omega (arith, p.lx)) ex k in record { then = s.then; x_is = s.here; y_is = s.there y p.ne ∙ ey; new = s.new; kept = s.kept; cost = s.cost }
-
-        pub step_to : {n : Now} {x y : ℕ} {z z' : Wholes sv kp} {my : Memory O} {dy : Disks sv kp} → z ≡ z' → Step n x y z my dy → Step n x y z' my dy
-        step_to {n} {x} {y} {z} {z'} {my} {dy} e s = subst (λ (k : Wholes sv kp). Step n x y k my dy) e s
-
-        module _ (sure : (fs : List (Seen O R)) (v : Wor) → Trace (replicated sv kp ok) all fs v → Sure v) where
-          -- what is so of a copy
-          pub record Facts (j : ℕ) (m : Memory O) (d : Disks sv kp) : Type 0 where
-            pub me_is : m.me ≡ j
-            pub low : m.lead ≤ suc d.agreeing.promised
-            pub own : m.lead ≡ suc d.agreeing.promised → d.agreeing.promised % 3 ≡ j
-            pub rank_low : rank d.agreeing.proposal ≤ suc d.agreeing.promised
-
-          pub facts : (n : Now) (j : ℕ) (m : Memory O) (d : Disks sv kp) → j < 3 → n.v.house j ≡ on m d → Facts j m d
-          facts n j m d l e = go (sure n.fs n.v n.trace).g (sure n.fs n.v n.trace).inv (subst (Ok sv kp (sure n.fs n.v n.trace).g (sure n.fs n.v n.trace).asked (sure n.fs n.v n.trace).made j) e ((sure n.fs n.v n.trace).house j))
-            where
-              go : (g : Copies.World (Command O)) → Inv g → OkOn sv kp g (sure n.fs n.v n.trace).asked (sure n.fs n.v n.trace).made j m d → Facts j m d
-              go g i o =
-                  record {
-                    me_is = o.me_is;
-                    low = low m.lead refl;
-                    own = λ z. ap (λ k. k % 3) prom_is ∙ ((o.lead_is l d.agreeing.promised z).now prom_is).owner;
-                    rank_low = rank_low (g.copy j).proposal refl;
-                  }
-                where
-                  prom_is : d.agreeing.promised ≡ (g.copy j).promised
-                  prom_is = (o.copy_is l).promised_is
-
-                  low : (k : ℕ) → m.lead ≡ k → m.lead ≤ suc d.agreeing.promised
-                  low zero z = omega arith
-                  low (suc b) z = omega (arith, prom_is, (o.lead_is l b z).low)
-
-                  rank_low : (u : Proposal (Command O)) → (g.copy j).proposal ≡ u → rank d.agreeing.proposal ≤ suc d.agreeing.promised
-                  rank_low nothing z = rw ((o.copy_is l).proposal_is ∙ z) (omega arith)
-                  rank_low (voted b k) z = rw ((o.copy_is l).proposal_is ∙ z) (omega (arith, prom_is, (i.own j (g.copy j) b k (i.cur j l) z).1))
-
-          -- what is among the news then
-          module _ {x y : ℕ} (p : Pair x y) {n : Now} {z : Wholes sv kp} {my : Memory O} {dy : Disks sv kp} (s : Step n x y z my dy) where
-            me_is : z.turn.memory.me ≡ x
-            me_is = (facts s.then x z.turn.memory (disk_of sv kp z) p.lx s.x_is).me_is
-
-            pub said : Reaches y z.turn.sends.status → Memᴰ (record { to = y; from = x; what = Told (status_now sv kp z.turn.agreeing) }) s.then.news
-            said r = s.new _ (post_status sv kp z y r p.ly (λ e. p.ne (e ∙ me_is)))
-
-            pub asked_for : (b t : ℕ) → z.turn.sends.wants ≡ Some y → z.turn.agreeing.recovery ≡ recovers b t → Memᴰ (record { to = y; from = x; what = Asked (want_of sv kp b t z.turn.memory.pass.key) }) s.then.news
-            asked_for b t e f = s.new _ (post_want sv kp z y b t e f)
-
-            pub gave : (c : Serve) → z.turn.sends.serves ≡ Some c → Memᴰ (record { to = c.to; from = x; what = Given (part_of sv kp c.want z) }) s.then.news
-            gave c e = s.new _ (post_part sv kp z c e)
+    pub gave : (c : Serve) → z.turn.sends.serves ≡ Some c → Memᴰ (record { to = c.to; from = x; what = Given (part_of sv kp c.want z) }) s.then.news
+    gave c e = s.new _ (post_part sv kp z c e)
