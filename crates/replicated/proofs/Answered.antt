@@ -1,6 +1,6 @@
 -- The houses answer.
 use Rattle.std.specs.Prelude.{◌≡◌, ℕ, zero, suc, ◌+◌, ◌*◌, true, T, List, [], ◌∷◌, length}
-use Rattle.std.proofs.Common.{◌≤◌, ◌<◌, ◌≢◌, sym, refl, ◌∙◌, inl, inr, arith}
+use Rattle.std.proofs.Common.{◌≤◌, ◌≢◌, sym, refl, ◌∙◌, inl, inr, arith}
 use Rattle.std.proofs.Math.Nat.{suc-mul}
 use mathlib.Core.List.Memᴰ
 use mathlib.Core.List.{Memᴰ}

@@ -1,26 +1,26 @@
 -- A bundle under way is done by two copies, and its house hears of it.
-use Rattle.std.specs.Prelude.{◌≡◌, ℕ, zero, suc, ◌+◌, ◌*◌, ◌%◌, Bool, true, false, not, List, [], ◌∷◌, Option, Some, None}
+use Rattle.std.specs.Prelude.{◌≡◌, ℕ, suc, ◌+◌, ◌*◌, false, List, []}
 use Rattle.std.proofs.Common.{◌<◌, ◌≤◌, ◌≢◌, ◌⊎◌, sym, refl, ap, ◌∙◌, subst, inl, inr, arith}
 use mathlib.Core.List.{Memᴰ}
 use native.Mathlib.Decide.{ℕ_discrete}
-use Rattle.agreement.specs.Copies.{Copy}
-use Rattle.disks.specs.Cluster.{In, From, Tick, Seen, Packet, put}
-use Rattle.compose.specs.Pure.{Stand, off, on, Trace, PureHelped, still, rising, doing, ticking}
-use Rattle.copies.specs.Service.{Service, Keeper, Keeps}
-use Rattle.copies.specs.Messages.{Item, Bundle, Command, Session, level, Agreeing, Bundled, Done}
-use Rattle.copies.specs.Copy.{Way, free, under, Memory, is_new}
-use Rattle.copies.specs.House.{Disks, Wholes, Messages, begins, disk_of, got, ticked, behaves, Guard, replicated}
-use Rattle.copies.specs.Promise.{Played, replay}
+use Rattle.disks.specs.Cluster.{From, Tick, Seen, put}
+use Rattle.compose.specs.Pure.{on, PureHelped, still, rising, doing, ticking}
+use Rattle.copies.specs.Service.{Service, Keeper}
+use Rattle.copies.specs.Messages.{Item, Bundle, Session, Agreeing, Bundled, Done}
+use Rattle.copies.specs.Copy.{free, under, Memory, is_new}
+use Rattle.copies.specs.House.{Disks, Wholes, posts, begins, disk_of, got, ticked, behaves, replicated}
 use Rattle.replicated.proofs.Lists.{put_here, put_other}
 use Rattle.replicated.proofs.Replay.{Above, Upto, Stems, replay_stems}
 use Rattle.replicated.proofs.Good.{Ok, OkOn}
 use Rattle.replicated.proofs.Posted.{Pos, post_bundle, post_reply}
-use Rattle.replicated.proofs.Heard.{Ticked, tick_any}
+use Rattle.replicated.proofs.Ticks.{Ticked, tick_any}
 use Rattle.replicated.proofs.Parted.{turn_of}
 use Rattle.replicated.proofs.Stage.{Stages, stage_does, stage_ticks, stage_done, Bundles, hears_bundle}
 use Rattle.replicated.proofs.New.{above_false}
 use Rattle.replicated.proofs.Now.{Wor, Sure, Alone, on_mem, on_disk, on_off, stands, packet_of, Now, Moved, ticks_on, hears_on, Pair, swap, Facts, facts}
-use Rattle.replicated.proofs.Help.{Even, Evens, evens, Calm, Won, wins, Leads, Finished, Has, finishes}
+use Rattle.replicated.proofs.Evens.{Even, Evens, evens}
+use Rattle.replicated.proofs.Wins.{Calm, Won, wins}
+use Rattle.replicated.proofs.Rounds.{Finished, finishes}
 
 at_put : {A : Type 0} (i j : ℕ) (s : A) (hs : ℕ → A) → i ≡ j → put j s hs i ≡ s
 at_put i j s hs e = subst (λ (k : ℕ). put j s hs k ≡ s) (sym e) (put_here j s hs)
@@ -51,7 +51,7 @@ module _ {O R : Type 0} {sv : Service O R} {kp : Keeper sv} (alone : Alone sv kp
     | no n ↦ (h.0, h.1, put_other j _ v.house i n ∙ h.2, h.3)
   ]
 
-  -- a house of the alone.group with a bundle under way
+  -- a house of the group with a bundle under way
   module _ (i : ℕ) (gi : Memᴰ i alone.group) (li : i < alone.all) (m0 : Memory O) (d0 : Disks sv kp) (b : Bundle O) (e0 : alone.w.house i ≡ on m0 d0) (w0 : m0.way ≡ under b) where
     pub record End (k : ℕ) : Type 0 where
       pub then : Now alone
@@ -101,7 +101,7 @@ module _ {O R : Type 0} {sv : Service O R} {kp : Keeper sv} (alone : Alone sv kp
       pub z_is : then.v.house z ≡ stands sv kp (got sv kp i (Bundled b) (begins sv kp mz dz))
       pub i_is : then.v.house i ≡ stands sv kp (ticked sv kp (begins sv kp mi di))
       pub there : (j : ℕ) → j ≢ i → j ≢ z → then.v.house j ≡ n.v.house j
-      pub new : (q : Pos sv kp) → Memᴰ q (Rattle.copies.specs.House.posts sv kp (got sv kp i (Bundled b) (begins sv kp mz dz))) → Memᴰ (packet_of sv kp z q) then.news
+      pub new : (q : Pos sv kp) → Memᴰ q (posts sv kp (got sv kp i (Bundled b) (begins sv kp mz dz))) → Memᴰ (packet_of sv kp z q) then.news
       pub cost : then.steps ≡ 2 + n.steps
 
     asks : (k : ℕ) (n : Now alone) (z : ℕ) → n.steps + 1 ≤ k → Memᴰ z alone.group → z < 3 → z ≢ i → (mi mz : Memory O) (di dz : Disks sv kp) → n.v.house i ≡ on mi di → n.v.house z ≡ on mz dz → Asked n z mi di mz dz ⊎ End k
@@ -156,8 +156,15 @@ module _ {O R : Type 0} {sv : Service O R} {kp : Keeper sv} (alone : Alone sv kp
             there : u ≢ i → Calm alone s.then z u zz.turn.memory (disk_of sv kp zz)
             there e =
                 record {
-                  mu = a.my; du = a.dy; z_is = s.z_is; u_is = s.there u e p.ne ∙ a.y_is; z_level = ap (λ (c : Agreeing O). c.recovery) same ∙ a.x_level; u_level = a.y_level;
-                  vers = a.vers ∙ sym (ap (λ (c : Agreeing O). c.version) same); proms = omega (arith, a.proms, ap (λ (c : Agreeing O). c.promised) same); u_not = a.y_not;
+                  mu = a.my;
+                  du = a.dy;
+                  z_is = s.z_is;
+                  u_is = s.there u e p.ne ∙ a.y_is;
+                  z_level = ap (λ (c : Agreeing O). c.recovery) same ∙ a.x_level;
+                  u_level = a.y_level;
+                  vers = a.vers ∙ sym (ap (λ (c : Agreeing O). c.version) same);
+                  proms = omega (arith, a.proms, ap (λ (c : Agreeing O). c.promised) same);
+                  u_not = a.y_not;
                 }
 
             here : u ≡ i → Calm alone s.then z u zz.turn.memory (disk_of sv kp zz)

@@ -23,6 +23,7 @@ pub mod Busy
 pub mod Runs
 pub mod Turns
 pub mod Posted
+pub mod Ticks
 pub mod Heard
 pub mod Parted
 pub mod Stage
@@ -30,8 +31,9 @@ pub mod New
 pub mod Now
 pub mod Passes
 pub mod Meets
-pub mod Help
+pub mod Evens
+pub mod Wins
+pub mod Rounds
 pub mod Attempts
 pub mod Open
-
 pub mod Answered

@@ -1,24 +1,19 @@
 -- Two copies meet: both become level and as far, with the same promise, and neither leads.
-use Rattle.std.specs.Prelude.{◌≡◌, ℕ, zero, suc, ◌+◌, ◌*◌, ◌%◌, max, Bool, true, false, not, List, [], ◌∷◌, Option, Some, None}
-use Rattle.std.proofs.Common.{◌<◌, ◌≤◌, ◌≢◌, ◌⊎◌, sym, refl, ap, ◌∙◌, subst, inl, inr, arith}
+use Rattle.std.specs.Prelude.{◌≡◌, ℕ, zero, suc, ◌+◌, ◌*◌, ◌%◌, max, not}
+use Rattle.std.proofs.Common.{◌<◌, ◌≤◌, ◌≢◌, sym, refl, ap, ◌∙◌, subst, inl, inr, arith}
 use mathlib.Core.List.{Memᴰ}
 use native.Mathlib.Decide.{ℕ_discrete, dec_le}
-use Rattle.agreement.specs.Copies
-use Rattle.agreement.specs.Copies.{Proposal, nothing, voted, rank}
-use Rattle.agreement.proofs.Inv.{Inv}
-use Rattle.agreement.proofs.Behind.{Behind, no_less, not_two}
-use Rattle.disks.specs.Cluster.{In, Seen, Packet}
-use Rattle.compose.specs.Pure.{Stand, off, on, Trace}
-use Rattle.copies.specs.Service.{Service, Keeper, Keeps}
-use Rattle.copies.specs.Messages.{Bundle, Command, Session, Recovery, level, recovers, is_level, Agreeing, Status, Told}
-use Rattle.copies.specs.Copy.{Memory, unseen, Turn, patience, next_ballot, raised, telling, recovering, hears, noted, on_tick, on_status, goes_on}
-use Rattle.copies.specs.House.{Disks, Wholes, Messages, status_now, with_turn, works, begins, disk_of, got, ticked, Guard, replicated, on as on_turn}
-use Rattle.replicated.proofs.Good.{Ok, OkOn, Lags}
-use Rattle.replicated.proofs.Turns.{Reaches}
-use Rattle.replicated.proofs.Heard.{next_own, tick_waits, tick_elects, tick_led, heard_is, Light, Evened, hears_evened, hears_same, Learned, Nearer, hears_nearer, hears_told, Answering, tells_left}
-use Rattle.replicated.proofs.Parted.{turn_of, told_is, Gone, light_gone, Resumed, recovers_left}
-use Rattle.replicated.proofs.Now.{Wor, Sure, Alone, stands, Now, Pair, Step, swap, tick_x, hear_x, step_to, Facts, facts, said}
-use Rattle.replicated.proofs.Passes.{Ended, Wanting, resumes, ends_level, Both, catches}
+use Rattle.agreement.specs.Copies.{rank}
+use Rattle.compose.specs.Pure.{on}
+use Rattle.copies.specs.Service.{Service, Keeper}
+use Rattle.copies.specs.Messages.{Bundle, Recovery, level, is_level, Agreeing, Status, Told}
+use Rattle.copies.specs.Copy.{Memory, unseen, Turn, patience, next_ballot, raised, telling, hears, noted, on_status, goes_on}
+use Rattle.copies.specs.House.{Disks, Wholes, status_now, with_turn, works, begins, disk_of, got, ticked, on as on_turn}
+use Rattle.replicated.proofs.Ticks.{next_own, tick_waits, tick_elects, tick_led}
+use Rattle.replicated.proofs.Heard.{heard_is, Evened, hears_evened, hears_same, Nearer, hears_nearer, hears_behind, tells_left}
+use Rattle.replicated.proofs.Parted.{turn_of, told_is, light_gone, recovers_left}
+use Rattle.replicated.proofs.Now.{Alone, Now, Pair, Step, swap, tick_x, hear_x, step_to, Facts, facts, said}
+use Rattle.replicated.proofs.Passes.{resumes, ends_level}
 
 module _ {O R : Type 0} {sv : Service O R} {kp : Keeper sv} (alone : Alone sv kp) where
   -- x, which doesn't lead, elects itself
@@ -223,8 +218,23 @@ module _ {O R : Type 0} {sv : Service O R} {kp : Keeper sv} (alone : Alone sv kp
           stepped : z.turn.agreeing.promised ≡ q → z.turn.agreeing.recovery ≡ level → s.d.agreeing.version ≤ z.turn.agreeing.version → (mx.lead ≢ suc dx.agreeing.promised → dy.agreeing.version ≤ dx.agreeing.version → z.turn.agreeing.version ≡ s.d.agreeing.version) → Met n x y mx dx dy
           stepped e l v g =
               record {
-                then = h.then; mx = s.m; dx = s.d; my = z.turn.memory; dy = disk_of sv kp z; x_is = h.y_is; y_is = h.x_is; x_level = s.level_is; y_level = l;
-                ver_is = s.ver_is; far = v; low = s.low; own = s.own; prom_is = e; not_led = λ o. (s.free o).0; as_far = g; cost = omega (arith, h.cost, s.cost);
+                then = h.then;
+                mx = s.m;
+                dx = s.d;
+                my = z.turn.memory;
+                dy = disk_of sv kp z;
+                x_is = h.y_is;
+                y_is = h.x_is;
+                x_level = s.level_is;
+                y_level = l;
+                ver_is = s.ver_is;
+                far = v;
+                low = s.low;
+                own = s.own;
+                prom_is = e;
+                not_led = λ o. (s.free o).0;
+                as_far = g;
+                cost = omega (arith, h.cost, s.cost);
               }
 
           nearer : dy.agreeing.version < s.d.agreeing.version → Nearer x q X t (on_status x X (turn_of sv kp my dy)) → Met n x y mx dx dy
@@ -235,8 +245,23 @@ module _ {O R : Type 0} {sv : Service O R} {kp : Keeper sv} (alone : Alone sv kp
               let c = recovers_left sv kp x q t (begins sv kp my dy) refl in
               let e = ends_level alone (swap alone p) b.then _ _ s.m s.d (resumes alone (swap alone p) s.then _ s.m s.d b q dy.agreeing.version 0 dy.kept unseen c s.level_is (omega (arith, l)) (omega arith)) in
               record {
-                then = e.then; mx = s.m; dx = s.d; my = e.m; dy = e.d; x_is = e.s_is; y_is = e.c_is; x_level = s.level_is; y_level = e.level_is;
-                ver_is = s.ver_is; far = omega (arith, e.ver_is); low = s.low; own = s.own; prom_is = e.prom_is ∙ c.prom_is; not_led = λ o. (s.free o).0; as_far = λ _ _. e.ver_is; cost = omega (arith, e.cost, h.cost, b.cost, s.cost);
+                then = e.then;
+                mx = s.m;
+                dx = s.d;
+                my = e.m;
+                dy = e.d;
+                x_is = e.s_is;
+                y_is = e.c_is;
+                x_level = s.level_is;
+                y_level = e.level_is;
+                ver_is = s.ver_is;
+                far = omega (arith, e.ver_is);
+                low = s.low;
+                own = s.own;
+                prom_is = e.prom_is ∙ c.prom_is;
+                not_led = λ o. (s.free o).0;
+                as_far = λ _ _. e.ver_is;
+                cost = omega (arith, e.cost, h.cost, b.cost, s.cost);
               }
 
           by_ver : Dec (s.d.agreeing.version ≤ dy.agreeing.version) → Dec (s.d.agreeing.version ≡ dy.agreeing.version) → Met n x y mx dx dy
@@ -247,7 +272,7 @@ module _ {O R : Type 0} {sv : Service O R} {kp : Keeper sv} (alone : Alone sv kp
               stepped (g.prom_is ∙ e.prom_is) (g.rec_is ∙ e.rec_is ∙ vy) (omega (arith, e.ver_is, g.ver_is, b))
               (λ o _. g.ver_is ∙ ap (λ (u : Turn sv.Rest sv.Block O sv.A). u.agreeing.version) is ∙ hears_same x q X t refl (sym b) (λ r. absurd (omega (arith, r, (s.free o).1))) ∙ sym b)
           by_ver (yes a) (no b) =
-              let e = ap goes_on (is ∙ hears_told x q X t (omega (arith, a, b))) in
+              let e = ap goes_on (is ∙ hears_behind x q X t (omega (arith, a, b))) in
               let c = tells_left x q t refl in
               stepped (ap (λ (u : Turn sv.Rest sv.Block O sv.A). u.agreeing.promised) (gone_is e) ∙ c.prom_is) (ap (λ (u : Turn sv.Rest sv.Block O sv.A). u.agreeing.recovery) (gone_is e) ∙ c.stands.rec_is ∙ vy)
               (omega (arith, a, ap (λ (u : Turn sv.Rest sv.Block O sv.A). u.agreeing.version) (gone_is e), c.stands.ver_is)) (λ _ l. absurd (omega (arith, l, a, b, s.ver_is)))

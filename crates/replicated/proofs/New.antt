@@ -1,16 +1,15 @@
 -- Which bundles are new, and that none becomes new again when a command is applied.
-use Rattle.std.specs.Prelude.{◌≡◌, ℕ, suc, Bool, true, false, cond, List, [], ◌∷◌}
-use Rattle.std.proofs.Common.{eqb, ltb, ◌⊎◌, sym, refl, ap, ◌∙◌, subst, inl, inr, arith}
+use Rattle.std.specs.Prelude.{◌≡◌, ℕ, Bool, true, false, cond, List, [], ◌∷◌}
+use Rattle.std.proofs.Common.{◌⊎◌, sym, refl, ap, ◌∙◌, subst, inl, inr, arith}
 use mathlib.Core.List.Memᴰ
 use mathlib.Core.List.{Memᴰ}
 use Rattle.std.proofs.lemmas.Bool.Decides.{nat_tests as tests}
 use Rattle.agreement.proofs.Base.{by_test}
-use Rattle.disks.specs.Cluster.{put}
 use Rattle.copies.specs.Service.{Service, Keeper}
 use Rattle.copies.specs.Messages.{Bundle, Command, Session, above}
 use Rattle.copies.specs.Copy.{is_new, is_nil, undone}
 use Rattle.copies.specs.House.{State, bundle_done, command_done}
-use Rattle.replicated.proofs.Lists.{put_here, each}
+use Rattle.replicated.proofs.Lists.{each}
 use Rattle.replicated.proofs.Replay.{Above, above_true, above_trans}
 
 pub above_false : (i c j d : ℕ) → above i c j d ≡ false → Above i c j d → ⊥

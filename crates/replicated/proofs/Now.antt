@@ -1,23 +1,22 @@
 -- Runs with help from a world, step by step, and what each step leaves.
-use Rattle.std.specs.Prelude.{◌≡◌, ℕ, zero, suc, ◌+◌, ◌%◌, true, List, [], ◌∷◌, ◌++◌, Option, Some, None}
-use Rattle.std.proofs.Common.{◌<◌, ◌≤◌, ◌≢◌, ◌⊎◌, sym, refl, ap, ◌∙◌, subst, inl, inr, arith}
+use Rattle.std.specs.Prelude.{◌≡◌, ℕ, zero, suc, ◌%◌, true, List, [], ◌∷◌, ◌++◌, Some}
+use Rattle.std.proofs.Common.{◌<◌, ◌≤◌, ◌≢◌, sym, refl, ap, ◌∙◌, subst, inl, inr, arith}
 use mathlib.Core.List.Memᴰ
 use mathlib.Core.List.{Memᴰ}
-use native.Mathlib.Decide.{ℕ_discrete}
 use Rattle.agreement.specs.Copies
 use Rattle.agreement.specs.Copies.{Proposal, nothing, voted, rank, Copy}
 use Rattle.agreement.proofs.Base.{Snap}
 use Rattle.agreement.proofs.Inv.{Inv}
-use Rattle.disks.specs.Cluster.{In, From, Tick, Out, Tell, Seen, Packet, put, packets}
-use Rattle.compose.specs.Pure.{Stand, off, on, World, Trace, does, ticks, after, PureHelped, still, rising, doing, ticking}
+use Rattle.disks.specs.Cluster.{In, From, Tick, Out, Tell, Seen, Packet, packets}
+use Rattle.compose.specs.Pure.{Stand, off, on, World, Trace, does, ticks, after, PureHelped, doing, ticking}
 use Rattle.copies.specs.Service.{Service, Keeper, Keeps}
-use Rattle.copies.specs.Messages.{Item, Bundle, Command, Reply, Session, Recovery, level, recovers, Agreeing, Status, Told, Asked, Given}
-use Rattle.copies.specs.Copy.{Way, free, under, Memory, Pass, Whom, Serve}
-use Rattle.copies.specs.House.{Disks, Wholes, Messages, Post, Ended, status_now, want_of, part_of, posts, posted, outs, begins, disk_of, finishes, got, ticked, acts, Guard, behaves, replicated}
+use Rattle.copies.specs.Messages.{Bundle, Command, Reply, recovers, Told, Asked, Given}
+use Rattle.copies.specs.Copy.{Memory, Serve}
+use Rattle.copies.specs.House.{Disks, Wholes, Messages, Ended, status_now, want_of, part_of, posts, posted, outs, begins, disk_of, finishes, got, ticked, acts, Guard, behaves, replicated}
 use Rattle.replicated.proofs.Lists.{put_here, put_other, Homed}
 use Rattle.replicated.proofs.Good.{Ok, OkOn, Inside}
 use Rattle.replicated.proofs.Turns.{Reaches}
-use Rattle.replicated.proofs.Posted.{Pos, post_status, post_bundle, post_reply, post_want, post_part}
+use Rattle.replicated.proofs.Posted.{Pos, post_status, post_want, post_part}
 
 join_join : {A : Type 0} (a b c : List A) → (a ++ b) ++ c ≡ a ++ (b ++ c)
 join_join [] b c = refl

@@ -1,16 +1,14 @@
 -- What an event leaves of a copy and its blocks: statuses, parts of a pass, and what is wanted.
-use Rattle.std.specs.Prelude.{◌≡◌, ℕ, suc, ◌+◌, ◌%◌, min, max, Bool, true, false, cond, ◌&&◌, ◌||◌, not, List, [], ◌∷◌, Option, Some, None, nat_lt, nat_le, ◌==◌}
-use Rattle.std.proofs.Common.{◌<◌, ◌≤◌, eqb, ltb, leb, ◌≢◌, ◌⊎◌, sym, refl, ap, ◌∙◌, subst, inl, inr, arith, ltb-false, ltb-true, eqb-true, eq-eqb}
-use mathlib.Core.List.{Memᴰ}
+use Rattle.std.specs.Prelude.{◌≡◌, ℕ, min, max, Bool, cond, Option, Some, None, ◌==◌}
+use Rattle.std.proofs.Common.{◌<◌, ◌≤◌, eqb, ◌≢◌, ◌⊎◌, sym, refl, ap, ◌∙◌, subst, inl, inr, arith, eqb-true}
 use borrow.Author.Tests.{eqb-false}
 use Rattle.std.proofs.lemmas.Bool.Decides.{nat_tests as tests}
-use Rattle.agreement.specs.Copies.{Proposal, nothing, voted, rank}
-use Rattle.agreement.proofs.Base.{by_test, by_both, by_three}
-use Rattle.copies.specs.Service.{Service, Keeper, Portion}
-use Rattle.copies.specs.Messages.{Bundle, Command, Session, Recovery, level, recovers, is_level, Agreeing, Status, Want, Part, Tail, more, ends, next_key, Told, Asked, Given}
-use Rattle.copies.specs.Copy.{Memory, Span, unseen, from_to, Pass, Whom, Serve, Sends, Work, rests, applies, takes, replaces, Turn, silent, new_pass, widened, is_asked, is_copy, ranging, begun, adopted, ended, recovering, wanting, passing, agreed, saying_to, on_status, on_part, passed, tail_taken, taken, begins_again, on_want, goes_on}
-use Rattle.copies.specs.House.{Disks, Turns, Wholes, Parts, State, command_done, with_turn, executed, put_rest, stowed, does_work, works, on, begins, disk_of, got, is_whole, tail_of, part_of}
-use Rattle.replicated.proofs.Turns.{max_left, not_level, Reaches, Keeps, keeps_goes}
+use Rattle.agreement.proofs.Base.{by_test}
+use Rattle.copies.specs.Service.{Service, Keeper}
+use Rattle.copies.specs.Messages.{Session, Recovery, level, recovers, Agreeing, Status, Want, Tail, more, ends, next_key, Told, Asked, Given}
+use Rattle.copies.specs.Copy.{Memory, Span, unseen, from_to, Pass, Work, rests, applies, takes, replaces, silent, new_pass, widened, ranging, adopted, ended, recovering, wanting, passing, agreed, saying_to, on_status, on_part, passed, tail_taken, begins_again, on_want, goes_on}
+use Rattle.copies.specs.House.{Disks, Turns, Wholes, Parts, with_turn, put_rest, stowed, does_work, works, on, begins, got, is_whole, tail_of, part_of}
+use Rattle.replicated.proofs.Turns.{max_left, keeps_goes}
 use Rattle.replicated.proofs.Heard.{Light}
 
 -- all parts of the pass were of one version
@@ -110,8 +108,11 @@ module _ {O R : Type 0} (sv : Service O R) (kp : Keeper sv) where
     between t y done v l h e f g =
         by_test (λ (z : Turns sv kp). (Over p x.version (Left z) × (l ≡ h)) ⊎ (Resumed r p v s 0 unseen (Left z) × (l ≢ h))) (eqb l h)
         (λ c. inl (over t y done (omega (arith, f, g)), eqb-true _ _ c))
-        (λ c. inr (subst (λ (k : Work sv.Rest sv.Block O sv.A). Resumed r p v s 0 unseen (on sv kp goes_on (put_rest sv kp k (record w { turn = wanting r (passing new_pass (agreed (ranging p l h t.agreeing) t)); kept = s })))) (sym e)
-        (resumed r p v l h s 0 unseen (wanting r (passing new_pass (agreed (ranging p l h t.agreeing) t))) w refl f refl refl refl refl), eqb-false _ _ c))
+        (λ c. inr (
+          subst (λ (k : Work sv.Rest sv.Block O sv.A). Resumed r p v s 0 unseen (on sv kp goes_on (put_rest sv kp k (record w { turn = wanting r (passing new_pass (agreed (ranging p l h t.agreeing) t)); kept = s })))) (sym e)
+              (resumed r p v l h s 0 unseen (wanting r (passing new_pass (agreed (ranging p l h t.agreeing) t))) w refl f refl refl refl refl),
+          eqb-false _ _ c,
+        ))
 
     ends_left : (t : Turns sv kp) (y : sv.Rest) (done : ℕ → Session sv.A) (v : ℕ) (q : Pass) → t.work ≡ rests → t.agreeing.version ≡ v → v ≤ x.version → Ends r p v x q s (Left (passed r p x y done (widened x.version q.span) t))
     ends_left t y done v q e f g = go q.span

@@ -1,17 +1,16 @@
 -- A copy that recovers catches up with one that is level: pass by pass, part by part.
-use Rattle.std.specs.Prelude.{◌≡◌, ℕ, zero, suc, ◌+◌, ◌*◌, max, Bool, true, false, not, List, [], ◌∷◌, Option, Some, None}
-use Rattle.std.proofs.Common.{◌<◌, ◌≤◌, ◌≢◌, ◌⊎◌, sym, refl, ap, ◌∙◌, subst, inl, inr, arith}
+use Rattle.std.specs.Prelude.{◌≡◌, ℕ, zero, suc, ◌+◌, ◌*◌, not, Option, Some, None}
+use Rattle.std.proofs.Common.{◌<◌, ◌≤◌, ◌⊎◌, sym, refl, ap, ◌∙◌, subst, inl, inr, arith}
 use mathlib.Core.List.{Memᴰ}
-use Rattle.disks.specs.Cluster.{In, Seen, Packet}
-use Rattle.compose.specs.Pure.{Stand, off, on, Trace}
-use Rattle.copies.specs.Service.{Service, Keeper, Keeps}
-use Rattle.copies.specs.Messages.{Command, Recovery, level, recovers, is_level, Agreeing, Status, Want, Tail, more, ends, next_key, Told, Asked, Given}
-use Rattle.copies.specs.Copy.{Memory, Span, unseen, from_to, Pass, Whom, Serve, Turn, widened, telling, noted, on_tick, on_status, goes_on}
-use Rattle.copies.specs.House.{Disks, Wholes, Parts, Messages, status_now, want_of, part_of, with_turn, begins, disk_of, got, ticked, Guard, replicated}
-use Rattle.replicated.proofs.Turns.{Reaches}
-use Rattle.replicated.proofs.Heard.{tick_stirs, tells_is_left, asks_left}
-use Rattle.replicated.proofs.Parted.{Same, turn_of, told_is, Resumed, Over, Parted, Tails, got_part, serving, got_want, Portioned, portioned}
-use Rattle.replicated.proofs.Now.{Wor, Sure, Alone, stands, Now, Pair, Step, swap, tick_x, hear_x, step_to, Facts, facts, said, asked_for, gave}
+use Rattle.compose.specs.Pure.{on}
+use Rattle.copies.specs.Service.{Service, Keeper}
+use Rattle.copies.specs.Messages.{Recovery, level, recovers, is_level, Agreeing, Status, Want, Tail, more, ends, next_key, Told, Asked, Given}
+use Rattle.copies.specs.Copy.{Memory, Span, unseen, from_to, widened, on_status, goes_on}
+use Rattle.copies.specs.House.{Disks, Wholes, Parts, status_now, want_of, part_of, with_turn, begins, disk_of, got, ticked}
+use Rattle.replicated.proofs.Ticks.{tick_stirs}
+use Rattle.replicated.proofs.Heard.{tells_is_left, asks_left}
+use Rattle.replicated.proofs.Parted.{Same, turn_of, told_is, Resumed, Parted, Tails, got_part, serving, got_want, Portioned, portioned}
+use Rattle.replicated.proofs.Now.{Alone, stands, Now, Pair, Step, swap, tick_x, hear_x, step_to, facts, said, asked_for, gave}
 
 same_widened : (v : ℕ) (c : Span) → Same v c → Same v (widened v c)
 same_widened v unseen s = (refl, refl)
@@ -99,18 +98,18 @@ module _ {O R : Type 0} {sv : Service O R} {kp : Keeper sv} (alone : Alone sv kp
   same_take q ds x i r t = let a = i.asked_is in let b = i.whole_is in let c = i.floor_is in let d = i.blocks_is in let e = i.next_is in cc
 
   -- how many parts may come yet, and what a pass leads to
-  abbrev Pass' : (n : Now alone) (k c s : ℕ) (mc : Memory O) (dc : Disks sv kp) (ms : Memory O) (ds : Disks sv kp) → Type 0
-  Pass' n k c s mc dc ms ds = Ended n k c s dc ms ds ⊎ Again n k c s mc dc ms ds
+  abbrev After : (n : Now alone) (k c s : ℕ) (mc : Memory O) (dc : Disks sv kp) (ms : Memory O) (ds : Disks sv kp) → Type 0
+  After n k c s mc dc ms ds = Ended n k c s dc ms ds ⊎ Again n k c s mc dc ms ds
 
   part_of_pass : (k : ℕ) {c s : ℕ} (p : Pair alone c s) (n : Now alone) (mc : Memory O) (dc : Disks sv kp) (ms : Memory O) (ds : Disks sv kp) → Wanting n c s mc dc ms ds → alone.keeps.left ds.kept mc.pass.key ≤ k →
-      ((i : ℕ) → k ≡ suc i → (m : Now alone) (m' : Memory O) (d' : Disks sv kp) → Wanting m c s m' d' ms ds → alone.keeps.left ds.kept m'.pass.key ≤ i → Pass' m (2 * i + 2) c s m' d' ms ds) → Pass' n (2 * k + 2) c s mc dc ms ds
+      ((i : ℕ) → k ≡ suc i → (m : Now alone) (m' : Memory O) (d' : Disks sv kp) → Wanting m c s m' d' ms ds → alone.keeps.left ds.kept m'.pass.key ≤ i → After m (2 * i + 2) c s m' d' ms ds) → After n (2 * k + 2) c s mc dc ms ds
   part_of_pass k {c} {s} p n mc dc ms ds a l rec = go (comes p n mc dc ms ds a)
     where
       q : Want
       q = want_of sv kp a.base a.top mc.pass.key
 
       -- a part is taken, and there is more
-      more_left : (y : Came n c s mc dc ms ds q) (t : kp.Kept) (next : ℕ) → kp.take dc.rest y.x.whole y.x.asked.key (next_key y.x.tail) y.x.floor y.x.blocks dc.kept ≡ Some t → next_key y.x.tail ≡ Some next → Resumed sv kp s dc.agreeing.promised dc.agreeing.version t next (widened y.x.version mc.pass.span) (got sv kp s (Given y.x) (begins sv kp mc dc)) → Pass' n (2 * k + 2) c s mc dc ms ds
+      more_left : (y : Came n c s mc dc ms ds q) (t : kp.Kept) (next : ℕ) → kp.take dc.rest y.x.whole y.x.asked.key (next_key y.x.tail) y.x.floor y.x.blocks dc.kept ≡ Some t → next_key y.x.tail ≡ Some next → Resumed sv kp s dc.agreeing.promised dc.agreeing.version t next (widened y.x.version mc.pass.span) (got sv kp s (Given y.x) (begins sv kp mc dc)) → After n (2 * k + 2) c s mc dc ms ds
       more_left y t next e f r = at k refl
         where
           z : Wholes sv kp
@@ -133,7 +132,7 @@ module _ {O R : Type 0} {sv : Service O R} {kp : Keeper sv} (alone : Alone sv kp
               let i : b.0 ≡ t = cc in
               subst (alone.keeps.Fit ds.rest ds.kept) (i ∙ sym r.kept_is) b.2
 
-          at : (j : ℕ) → k ≡ j → Pass' n (2 * k + 2) c s mc dc ms ds
+          at : (j : ℕ) → k ≡ j → After n (2 * k + 2) c s mc dc ms ds
           at zero h = absurd (omega (arith, falls, h, l))
           at (suc i) h = elim (rec i h y.step.then z.turn.memory (disk_of sv kp z) wants (omega (arith, falls, h, l, ap (alone.keeps.left ds.kept) r.key_is))) [
             | inl b ↦ inl (record { then = b.then; m = b.m; d = b.d; c_is = b.c_is; s_is = b.s_is; level_is = b.level_is; ver_is = b.ver_is; prom_is = b.prom_is ∙ r.prom_is; cost = omega (arith, h, b.cost, y.cost) })
@@ -141,40 +140,40 @@ module _ {O R : Type 0} {sv : Service O R} {kp : Keeper sv} (alone : Alone sv kp
           ]
 
       -- a pass begins
-      anew : (y : Came n c s mc dc ms ds q) (t : kp.Kept) → Resumed sv kp s dc.agreeing.promised dc.agreeing.version t 0 unseen (got sv kp s (Given y.x) (begins sv kp mc dc)) → (Same ds.agreeing.version mc.pass.span → t ≡ kp.none) → (Same ds.agreeing.version mc.pass.span → alone.keeps.Fit ds.rest ds.kept dc.kept → ⊥) → Pass' n (2 * k + 2) c s mc dc ms ds
+      anew : (y : Came n c s mc dc ms ds q) (t : kp.Kept) → Resumed sv kp s dc.agreeing.promised dc.agreeing.version t 0 unseen (got sv kp s (Given y.x) (begins sv kp mc dc)) → (Same ds.agreeing.version mc.pass.span → t ≡ kp.none) → (Same ds.agreeing.version mc.pass.span → alone.keeps.Fit ds.rest ds.kept dc.kept → ⊥) → After n (2 * k + 2) c s mc dc ms ds
       anew y t r f g = inr (record { then = y.step.then; m = (got sv kp s (Given y.x) (begins sv kp mc dc)).turn.memory; d = disk_of sv kp (got sv kp s (Given y.x) (begins sv kp mc dc)); wanting = resumes p y.from _ ms ds y.step dc.agreeing.promised dc.agreeing.version 0 t unseen r a.s_level a.vers a.proms; span_is = r.span_is; ver_is = r.ver_is; prom_is = r.prom_is; none = λ h. r.kept_is ∙ f h; unfit = g; cost = omega (arith, y.cost) })
 
-      go : Came n c s mc dc ms ds q → Pass' n (2 * k + 2) c s mc dc ms ds
+      go : Came n c s mc dc ms ds q → After n (2 * k + 2) c s mc dc ms ds
       go y = by_take (kp.take dc.rest y.x.whole y.x.asked.key (next_key y.x.tail) y.x.floor y.x.blocks dc.kept) refl
         where
           z : Wholes sv kp
           z = got sv kp s (Given y.x) (begins sv kp mc dc)
 
-          by_tail : (t : kp.Kept) → kp.take dc.rest y.x.whole y.x.asked.key (next_key y.x.tail) y.x.floor y.x.blocks dc.kept ≡ Some t → (u : Tail sv.Rest sv.A) → y.x.tail ≡ u → Tails sv kp s dc.agreeing.promised dc.agreeing.version y.x mc.pass t u z → Pass' n (2 * k + 2) c s mc dc ms ds
+          by_tail : (t : kp.Kept) → kp.take dc.rest y.x.whole y.x.asked.key (next_key y.x.tail) y.x.floor y.x.blocks dc.kept ≡ Some t → (u : Tail sv.Rest sv.A) → y.x.tail ≡ u → Tails sv kp s dc.agreeing.promised dc.agreeing.version y.x mc.pass t u z → After n (2 * k + 2) c s mc dc ms ds
           by_tail t e (more next) f r = more_left y t next e (ap next_key f) r
           by_tail t e (ends rest done) f (inl r) = inl (record { then = y.step.then; m = z.turn.memory; d = disk_of sv kp z; c_is = y.step.x_is; s_is = y.step.y_is; level_is = r.rec_is; ver_is = r.ver_is ∙ y.is.ver_is; prom_is = r.prom_is; cost = omega (arith, y.cost) })
           by_tail t e (ends rest done) f (inr r) = anew y t r.0 (λ g. absurd (r.1 (subst (λ (v : ℕ). Same v mc.pass.span) (sym y.is.ver_is) g))) (λ g _. r.1 (subst (λ (v : ℕ). Same v mc.pass.span) (sym y.is.ver_is) g))
 
-          by_take : (o : Option kp.Kept) → kp.take dc.rest y.x.whole y.x.asked.key (next_key y.x.tail) y.x.floor y.x.blocks dc.kept ≡ o → Pass' n (2 * k + 2) c s mc dc ms ds
+          by_take : (o : Option kp.Kept) → kp.take dc.rest y.x.whole y.x.asked.key (next_key y.x.tail) y.x.floor y.x.blocks dc.kept ≡ o → After n (2 * k + 2) c s mc dc ms ds
           by_take None e = anew y kp.none (y.part None e) (λ _. refl) (λ _ f.
               let b = alone.keeps.fit_take ds.rest dc.rest y.is.whole a.base mc.pass.key ds.kept dc.kept f in
               let h : ◌≡◌ {A = Option kp.Kept} (Some b.0) None = sym b.1 ∙ sym (same_take q ds y.x y.is dc.rest dc.kept) ∙ e in
               let i : ◌≡◌ {A = ℕ} 0 1 = cc in omega arith)
           by_take (Some t) e = by_tail t e y.x.tail refl (y.part (Some t) e)
 
-  pass : (k : ℕ) {c s : ℕ} (p : Pair alone c s) (n : Now alone) (mc : Memory O) (dc : Disks sv kp) (ms : Memory O) (ds : Disks sv kp) → Wanting n c s mc dc ms ds → alone.keeps.left ds.kept mc.pass.key ≤ k → Pass' n (2 * k + 2) c s mc dc ms ds
+  pass : (k : ℕ) {c s : ℕ} (p : Pair alone c s) (n : Now alone) (mc : Memory O) (dc : Disks sv kp) (ms : Memory O) (ds : Disks sv kp) → Wanting n c s mc dc ms ds → alone.keeps.left ds.kept mc.pass.key ≤ k → After n (2 * k + 2) c s mc dc ms ds
   pass zero p n mc dc ms ds a l = part_of_pass zero p n mc dc ms ds a l (λ i e m m' d' b h. absurd (omega (arith, e)))
   pass (suc k) {c} {s} p n mc dc ms ds a l =
-      part_of_pass (suc k) p n mc dc ms ds a l (λ i e m m' d' b h. let f : k ≡ i = omega (arith, e) in subst (λ (j : ℕ). Pass' m (2 * j + 2) c s m' d' ms ds) f (pass k p m m' d' ms ds b (omega (arith, f, h))))
+      part_of_pass (suc k) p n mc dc ms ds a l (λ i e m m' d' b h. let f : k ≡ i = omega (arith, e) in subst (λ (j : ℕ). After m (2 * j + 2) c s m' d' ms ds) f (pass k p m m' d' ms ds b (omega (arith, f, h))))
 
-  -- after alone.three passes at most, c is level
+  -- after three passes at most, c is level
   pub ends_level : {c s : ℕ} (p : Pair alone c s) (n : Now alone) (mc : Memory O) (dc : Disks sv kp) (ms : Memory O) (ds : Disks sv kp) → Wanting n c s mc dc ms ds → Ended n (6 * alone.keeps.most + 6) c s dc ms ds
   ends_level {c} {s} p n mc dc ms ds a = first (pass alone.keeps.most p n mc dc ms ds a (alone.keeps.left_most ds.kept mc.pass.key))
     where
       wait : (k j : ℕ) (y : Again n k c s mc dc ms ds) → k + j ≤ 6 * alone.keeps.most + 6 → Ended y.then j c s y.d ms ds → Ended n (6 * alone.keeps.most + 6) c s dc ms ds
       wait k j y l e = record { then = e.then; m = e.m; d = e.d; c_is = e.c_is; s_is = e.s_is; level_is = e.level_is; ver_is = e.ver_is; prom_is = e.prom_is ∙ y.prom_is; cost = omega (arith, e.cost, y.cost, l) }
 
-      third : (y : Again n (2 * alone.keeps.most + 2) c s mc dc ms ds) (x : Again y.then (2 * alone.keeps.most + 2) c s y.m y.d ms ds) → Pass' x.then (2 * alone.keeps.most + 2) c s x.m x.d ms ds → Ended y.then (4 * alone.keeps.most + 4) c s y.d ms ds
+      third : (y : Again n (2 * alone.keeps.most + 2) c s mc dc ms ds) (x : Again y.then (2 * alone.keeps.most + 2) c s y.m y.d ms ds) → After x.then (2 * alone.keeps.most + 2) c s x.m x.d ms ds → Ended y.then (4 * alone.keeps.most + 4) c s y.d ms ds
       third y x (inl e) = record { then = e.then; m = e.m; d = e.d; c_is = e.c_is; s_is = e.s_is; level_is = e.level_is; ver_is = e.ver_is; prom_is = e.prom_is ∙ x.prom_is; cost = omega (arith, e.cost, x.cost) }
       third y x (inr b) =
           absurd (b.unfit (unseen_same x.span_is) (subst (alone.keeps.Fit ds.rest ds.kept) (sym (x.none (unseen_same y.span_is))) (alone.keeps.fit_none ds.rest ds.kept)))
@@ -182,11 +181,11 @@ module _ {O R : Type 0} {sv : Service O R} {kp : Keeper sv} (alone : Alone sv kp
           unseen_same : {c : Span} → c ≡ unseen → Same ds.agreeing.version c
           unseen_same e = subst (Same ds.agreeing.version) (sym e) tt
 
-      second : (y : Again n (2 * alone.keeps.most + 2) c s mc dc ms ds) → Pass' y.then (2 * alone.keeps.most + 2) c s y.m y.d ms ds → Ended y.then (4 * alone.keeps.most + 4) c s y.d ms ds
+      second : (y : Again n (2 * alone.keeps.most + 2) c s mc dc ms ds) → After y.then (2 * alone.keeps.most + 2) c s y.m y.d ms ds → Ended y.then (4 * alone.keeps.most + 4) c s y.d ms ds
       second y (inl e) = record { then = e.then; m = e.m; d = e.d; c_is = e.c_is; s_is = e.s_is; level_is = e.level_is; ver_is = e.ver_is; prom_is = e.prom_is; cost = omega (arith, e.cost) }
       second y (inr x) = third y x (pass alone.keeps.most p x.then x.m x.d ms ds x.wanting (alone.keeps.left_most ds.kept x.m.pass.key))
 
-      first : Pass' n (2 * alone.keeps.most + 2) c s mc dc ms ds → Ended n (6 * alone.keeps.most + 6) c s dc ms ds
+      first : After n (2 * alone.keeps.most + 2) c s mc dc ms ds → Ended n (6 * alone.keeps.most + 6) c s dc ms ds
       first (inl e) = record { then = e.then; m = e.m; d = e.d; c_is = e.c_is; s_is = e.s_is; level_is = e.level_is; ver_is = e.ver_is; prom_is = e.prom_is; cost = omega (arith, e.cost) }
       first (inr y) = wait (2 * alone.keeps.most + 2) (4 * alone.keeps.most + 4) y (omega arith) (second y (pass alone.keeps.most p y.then y.m y.d ms ds y.wanting (alone.keeps.left_most ds.kept y.m.pass.key)))
 

@@ -1,11 +1,12 @@
 -- What is among the posts at the end of an event.
-use Rattle.std.specs.Prelude.{◌≡◌, ℕ, zero, suc, Bool, true, false, cond, List, [], ◌∷◌, Option, Some, None, ◌==◌}
-use Rattle.std.proofs.Common.{◌<◌, eqb, ◌≢◌, refl, sym, ◌∙◌, ap, subst, inl, inr, arith, eqb-true}
+use Rattle.std.specs.Prelude.{◌≡◌, ℕ, zero, suc, Bool, true, false, List, [], ◌∷◌, Option, Some, None}
+use Rattle.std.proofs.Common.{◌<◌, eqb, ◌≢◌, refl, sym, ap, subst, inl, inr, arith, eqb-true}
 use mathlib.Core.List.Memᴰ
 use mathlib.Core.List.{Memᴰ}
 use Rattle.agreement.proofs.Base.{by_test}
+use Rattle.agreement.specs.Copies.{Proposal}
 use Rattle.copies.specs.Service.{Service, Keeper}
-use Rattle.copies.specs.Messages.{Bundle, Reply, Session, Recovery, level, recovers, Agreeing, Status, Want, Bundled, Done, Told, Asked, Given}
+use Rattle.copies.specs.Messages.{Bundle, Command, Session, Recovery, level, recovers, Status, Bundled, Done, Told, Asked, Given}
 use Rattle.copies.specs.Copy.{Way, free, under, Whom, nobody, one, others, Serve}
 use Rattle.copies.specs.House.{Post, Wholes, Messages, away, status_now, want_of, part_of, to_others, status_posts, bundle_posts, reply_posts, want_posts, part_posts, posts}
 use Rattle.replicated.proofs.Turns.{Reaches}
@@ -64,13 +65,13 @@ module _ {O R : Type 0} (sv : Service O R) (kp : Keeper sv) where
   reply_to done [] qs j m = absurd (Memᴰ.not-nil m)
   reply_to done (h ∷ hs) qs j m = elim (Memᴰ.cases_cons m) [ inl e ↦ Memᴰ.head (ap (λ (z : ℕ). record { to = z; what = Done (done z) }) e) | inr n ↦ Memᴰ.tail (reply_to done hs qs j n) ]
 
-  want_in : (key : ℕ) (p v l : ℕ) (u : Rattle.agreement.specs.Copies.Proposal (Rattle.copies.specs.Messages.Command O)) (y : Recovery) (o : Option ℕ) (qs : List Pos) (q : Pos) → Memᴰ q qs → Memᴰ q (want_posts sv kp key (record { promised = p; version = v; last = l; proposal = u; recovery = y }) o qs)
+  want_in : (key : ℕ) (p v l : ℕ) (u : Proposal (Command O)) (y : Recovery) (o : Option ℕ) (qs : List Pos) (q : Pos) → Memᴰ q qs → Memᴰ q (want_posts sv kp key (record { promised = p; version = v; last = l; proposal = u; recovery = y }) o qs)
   unfolding want_posts
   want_in key p v l u y None qs q k = k
   want_in key p v l u level (Some r) qs q k = k
   want_in key p v l u (recovers b t) (Some r) qs q k = Memᴰ.tail k
 
-  want_to : (key : ℕ) (p v l : ℕ) (u : Rattle.agreement.specs.Copies.Proposal (Rattle.copies.specs.Messages.Command O)) (y : Recovery) (b t : ℕ) (o : Option ℕ) (r : ℕ) (qs : List Pos) → o ≡ Some r → y ≡ recovers b t →
+  want_to : (key : ℕ) (p v l : ℕ) (u : Proposal (Command O)) (y : Recovery) (b t : ℕ) (o : Option ℕ) (r : ℕ) (qs : List Pos) → o ≡ Some r → y ≡ recovers b t →
       Memᴰ (record { to = r; what = Asked (want_of sv kp b t key) }) (want_posts sv kp key (record { promised = p; version = v; last = l; proposal = u; recovery = y }) o qs)
   unfolding want_posts
   want_to key p v l u y b t None r qs e f = absurd (let z : ◌≡◌ {A = ℕ} 0 1 = cc in omega arith)

@@ -1,16 +1,16 @@
 -- The bundle under way and the calls that wait, as events pass.
-use Rattle.std.specs.Prelude.{◌≡◌, ℕ, suc, Bool, true, false, cond, ◌&&◌, not, List, [], ◌∷◌, ◌==◌}
-use Rattle.std.proofs.Common.{◌<◌, eqb, ltb, ◌≢◌, ◌⊎◌, sym, refl, ap, ◌∙◌, subst, inl, inr, arith}
+use Rattle.std.specs.Prelude.{◌≡◌, ℕ, suc, Bool, true, false, cond, ◌&&◌, not, List, [], ◌∷◌}
+use Rattle.std.proofs.Common.{◌<◌, eqb, ◌≢◌, ◌⊎◌, sym, refl, ap, ◌∙◌, subst, inl, inr, arith}
 use mathlib.Core.List.{Memᴰ}
 use Rattle.std.proofs.lemmas.Bool.Decides.{nat_tests as tests}
 use Rattle.agreement.proofs.Base.{by_test}
 use Rattle.disks.specs.Cluster.{From, Tick}
 use Rattle.copies.specs.Service.{Service, Keeper}
-use Rattle.copies.specs.Messages.{Item, Bundle, Reply, Session, Agreeing, Bundled, Done, Told, Asked, Given}
-use Rattle.copies.specs.Copy.{Way, free, under, Memory, Turn, is_free, is_nil, is_copy, is_new, remembered, with_memory, packed, pack, freed, settle, settle_here, is_open, forward, on_bundle, on_status, on_part, on_want, on_tick, goes_on}
-use Rattle.copies.specs.House.{Disks, Wholes, Messages, Ended, Guard, begins, works, got, ticked, acts, behaves, on as on_turn}
-use Rattle.replicated.proofs.Like.{Alike, Like, like_forward, like_bundle, like_status, like_part, like_want, like_tick, like_works}
-use Rattle.replicated.proofs.Turns.{Keeps, keeps_forward}
+use Rattle.copies.specs.Messages.{Item, Bundle, Reply, Session, Bundled, Done, Told, Asked, Given}
+use Rattle.copies.specs.Copy.{Way, free, under, Memory, Turn, is_free, is_nil, is_copy, is_new, remembered, with_memory, packed, pack, freed, settle, settle_here, is_open, forward, on_bundle, on_status, on_part, goes_on}
+use Rattle.copies.specs.House.{Disks, Wholes, Messages, Ended, Guard, begins, got, ticked, acts, behaves, on as on_turn}
+use Rattle.replicated.proofs.Like.{Alike, like_forward, like_bundle, like_status, like_part, like_want, like_tick, like_works}
+use Rattle.replicated.proofs.Turns.{keeps_forward}
 
 module _ {O : Type 0} (b : Bundle O) (ws : List (Item O)) where
   -- b is under way yet and ws wait, or what waited was sent, if anything

@@ -1,14 +1,13 @@
 -- What a turn leaves, as far as help needs it.
-use Rattle.std.specs.Prelude.{◌≡◌, ℕ, suc, ◌%◌, max, Bool, true, false, cond, ◌&&◌, ◌||◌, not, List, [], ◌∷◌, Option, Some, None, nat_lt, nat_le, ◌==◌}
-use Rattle.std.proofs.Common.{◌<◌, ◌≤◌, eqb, ltb, leb, ◌≢◌, ◌⊎◌, sym, refl, ap, ◌∙◌, subst, inl, inr, arith, ltb-false, ltb-true, eqb-true}
+use Rattle.std.specs.Prelude.{◌≡◌, ℕ, suc, max, Bool, true, false, cond, ◌&&◌, ◌||◌, not, List, [], ◌∷◌}
+use Rattle.std.proofs.Common.{◌<◌, ◌≤◌, eqb, ltb, ◌≢◌, ◌⊎◌, sym, refl, ap, ◌∙◌, inl, inr, arith, ltb-true, eqb-true}
 use mathlib.Core.List.Memᴰ
 use mathlib.Core.List.{Memᴰ}
-use native.Mathlib.Decide.{ℕ_discrete}
 use Rattle.std.proofs.lemmas.Bool.Decides.{nat_tests as tests}
 use Rattle.agreement.specs.Copies.{Proposal, nothing, voted, rank, higher}
-use Rattle.agreement.proofs.Base.{by_test, by_both, by_three}
-use Rattle.copies.specs.Messages.{Item, Bundle, Command, Reply, Session, Recovery, level, recovers, is_level, Agreeing, Status}
-use Rattle.copies.specs.Copy.{Way, free, under, Memory, Pass, Whom, nobody, one, others, Serve, Sends, Work, rests, Turn, is_free, is_nil, is_copy, is_new, not_of, undone, raised, proposed, pack, settle, settle_here, is_open, proposing, forward, goes_on, also}
+use Rattle.agreement.proofs.Base.{by_test, by_three}
+use Rattle.copies.specs.Messages.{Bundle, Command, Session, Recovery, recovers, is_level, Agreeing}
+use Rattle.copies.specs.Copy.{Way, free, under, Whom, nobody, one, others, Turn, is_free, is_nil, is_copy, not_of, undone, pack, settle, settle_here, is_open, proposing, forward, goes_on, also}
 
 pub or_false : (a b : Bool) → (a || b) ≡ false → a ≡ false
 or_false true b e = e
@@ -88,8 +87,25 @@ module _ {X B O A : Type 0} where
   pub keeps_same : (t : Turn X B O A) → Keeps t t
   keeps_same t =
       record {
-        prom_is = refl; ver_is = refl; rec_is = refl; sessions_is = refl; work_is = refl; lead_is = refl; me_is = refl; quiet_is = refl; pass_is = refl;
-        still = λ _. refl; unlevel = λ _. refl; held = λ _. refl; pend_is = λ z. z; heard = λ b n m. m; says = λ j r. r; bundle = λ e. e; replies_is = refl; wants_is = refl; serves_is = refl;
+        prom_is = refl;
+        ver_is = refl;
+        rec_is = refl;
+        sessions_is = refl;
+        work_is = refl;
+        lead_is = refl;
+        me_is = refl;
+        quiet_is = refl;
+        pass_is = refl;
+        still = λ _. refl;
+        unlevel = λ _. refl;
+        held = λ _. refl;
+        pend_is = λ z. z;
+        heard = λ b n m. m;
+        says = λ j r. r;
+        bundle = λ e. e;
+        replies_is = refl;
+        wants_is = refl;
+        serves_is = refl;
       }
 
   pub keeps_then : {t u s : Turn X B O A} → Keeps t u → Keeps u s → Keeps t s
@@ -122,8 +138,25 @@ module _ {X B O A : Type 0} where
   keeps_settle s (under b) t =
       by_test (Keeps t) (eqb b.incarnation s.incarnation && eqb b.counter s.counter)
       (λ _. record {
-        prom_is = refl; ver_is = refl; rec_is = refl; sessions_is = refl; work_is = refl; lead_is = refl; me_is = refl; quiet_is = refl; pass_is = refl;
-        still = λ _. refl; unlevel = λ _. refl; held = λ _. refl; pend_is = λ z. z; heard = λ b n m. m; says = λ j r. r; bundle = λ e. e; replies_is = refl; wants_is = refl; serves_is = refl;
+        prom_is = refl;
+        ver_is = refl;
+        rec_is = refl;
+        sessions_is = refl;
+        work_is = refl;
+        lead_is = refl;
+        me_is = refl;
+        quiet_is = refl;
+        pass_is = refl;
+        still = λ _. refl;
+        unlevel = λ _. refl;
+        held = λ _. refl;
+        pend_is = λ z. z;
+        heard = λ b n m. m;
+        says = λ j r. r;
+        bundle = λ e. e;
+        replies_is = refl;
+        wants_is = refl;
+        serves_is = refl;
       })
       (λ _. keeps_same t)
 
@@ -136,8 +169,25 @@ module _ {X B O A : Type 0} where
   keeps_pack t =
       by_test (Keeps t) (is_free t.memory.way && not (is_nil t.memory.waiting))
       (λ _. record {
-        prom_is = refl; ver_is = refl; rec_is = refl; sessions_is = refl; work_is = refl; lead_is = refl; me_is = refl; quiet_is = refl; pass_is = refl;
-        still = λ _. refl; unlevel = λ _. refl; held = λ _. refl; pend_is = λ z. z; heard = λ b n m. Memᴰ.tail (not_of_in t.memory.me b t.memory.heard n m); says = λ j r. r; bundle = λ _. refl; replies_is = refl; wants_is = refl; serves_is = refl;
+        prom_is = refl;
+        ver_is = refl;
+        rec_is = refl;
+        sessions_is = refl;
+        work_is = refl;
+        lead_is = refl;
+        me_is = refl;
+        quiet_is = refl;
+        pass_is = refl;
+        still = λ _. refl;
+        unlevel = λ _. refl;
+        held = λ _. refl;
+        pend_is = λ z. z;
+        heard = λ b n m. Memᴰ.tail (not_of_in t.memory.me b t.memory.heard n m);
+        says = λ j r. r;
+        bundle = λ _. refl;
+        replies_is = refl;
+        wants_is = refl;
+        serves_is = refl;
       })
       (λ _. keeps_same t)
 
@@ -159,11 +209,25 @@ module _ {X B O A : Type 0} where
   keeps_forward t =
       by_three (Keeps t) (is_copy t.memory.me) (is_level t.agreeing.recovery) (eqb t.memory.lead (suc t.agreeing.promised) && (eqb (rank t.agreeing.proposal) 0 && not (is_nil (undone t.memory.heard t.sessions))))
       (λ _ l e. record {
-        prom_is = refl; ver_is = refl; rec_is = refl; sessions_is = refl; work_is = refl; lead_is = refl; me_is = refl; quiet_is = refl; pass_is = refl;
+        prom_is = refl;
+        ver_is = refl;
+        rec_is = refl;
+        sessions_is = refl;
+        work_is = refl;
+        lead_is = refl;
+        me_is = refl;
+        quiet_is = refl;
+        pass_is = refl;
         still = λ n. absurd (n (eqb-true _ _ (and_left _ _ e)));
         unlevel = λ n. absurd (let z : ◌≡◌ {A = Bool} true false = sym l ∙ n in let q : ◌≡◌ {A = ℕ} 0 1 = cc in omega arith);
         held = λ n. absurd (n (eqb-true _ _ (and_left _ _ (and_right _ _ e))));
-        pend_is = λ _. inr refl; heard = λ b n m. m; says = λ j r. tt; bundle = λ e. e; replies_is = refl; wants_is = refl; serves_is = refl;
+        pend_is = λ _. inr refl;
+        heard = λ b n m. m;
+        says = λ j r. tt;
+        bundle = λ e. e;
+        replies_is = refl;
+        wants_is = refl;
+        serves_is = refl;
       })
       (keeps_same t)
 
@@ -189,3 +253,17 @@ module _ {X B O A : Type 0} where
   goes_fills t j l v e n =
       let a = keeps_then (keeps_here t) (keeps_pack (settle_here t)) in
       forward_fills (pack (settle_here t)) j (omega (arith, a.me_is, l)) (ap is_level a.rec_is ∙ v) (a.lead_is ∙ e ∙ ap suc (sym a.prom_is)) (ap (λ (z : Agreeing O). z.proposal) (pack_agreeing (settle_here t) ∙ here_agreeing t) ∙ n)
+
+  -- a copy that doesn't apply nor take anything
+  pub record Stood (version : ℕ) (recovery : Recovery) (sessions : ℕ → Session A) (lead me : ℕ) (heard_before : List (Bundle O)) (u : Turn X B O A) : Type 0 where
+    pub ver_is : u.agreeing.version ≡ version
+    pub rec_is : u.agreeing.recovery ≡ recovery
+    pub sessions_is : u.sessions ≡ sessions
+    pub lead_is : u.memory.lead ≡ lead
+    pub heard : (b : Bundle O) → b.house ≢ me → Memᴰ b heard_before → Memᴰ b u.memory.heard
+
+  abbrev pub Stands : Turn X B O A → Turn X B O A → Type 0
+  Stands t u = Stood t.agreeing.version t.agreeing.recovery t.sessions t.memory.lead t.memory.me t.memory.heard u
+
+  pub stands_of : {t u : Turn X B O A} → Keeps t u → Stands t u
+  stands_of k = record { ver_is = k.ver_is; rec_is = k.rec_is; sessions_is = k.sessions_is; lead_is = k.lead_is; heard = k.heard }
