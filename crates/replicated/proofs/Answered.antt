@@ -1,4 +1,5 @@
--- The houses answer.
+-- The houses answer. Two copies are in the group, and are given power. Each house of it may have a bundle under way, and calls that wait
+-- behind it, which go into a second; when nothing is under way, nothing is pending there, since each call that is waits or is under way.
 use Rattle.std.specs.Prelude.{◌≡◌, ℕ, zero, suc, ◌+◌, ◌*◌, true, T, List, [], ◌∷◌, length}
 use Rattle.std.proofs.Common.{◌≤◌, ◌≢◌, sym, refl, ◌∙◌, inl, inr, arith}
 use Rattle.std.proofs.Math.Nat.{suc-mul}

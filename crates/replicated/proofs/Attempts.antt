@@ -1,4 +1,5 @@
--- A bundle under way is done by two copies, and its house hears of it.
+-- A bundle under way is done by two copies, and its house hears of it. The two become even, the house sends its bundle to one of them, that
+-- one comes to lead and has it done; then the house sends it again, and is told the replies. Whenever it's over before, that's the end.
 use Rattle.std.specs.Prelude.{◌≡◌, ℕ, suc, ◌+◌, ◌*◌, false, List, []}
 use Rattle.std.proofs.Common.{◌<◌, ◌≤◌, ◌≢◌, ◌⊎◌, sym, refl, ap, ◌∙◌, subst, inl, inr, arith}
 use mathlib.Core.List.{Memᴰ}

@@ -1,4 +1,6 @@
--- Two copies alone become level and even: each hears of the other, and one of the other again.
+-- Two copies alone become level and even. One that recovers catches up first: the other is level and no less far. Then y hears of x, so it
+-- is no less far and has promised no less; x hears of y, so its promise is y's ballot and it doesn't lead; and y hears of x again, which is
+-- no less far and elects itself, and proposes nothing under that ballot yet, so that y becomes exactly as far.
 use Rattle.std.specs.Prelude.{◌≡◌, ℕ, suc, ◌+◌, ◌*◌, ◌%◌}
 use Rattle.std.proofs.Common.{◌≤◌, ◌≢◌, sym, refl, ap, ◌∙◌, subst, arith}
 use Rattle.agreement.proofs.Behind.{no_less, not_two}
@@ -57,9 +59,10 @@ module _ {O R : Type 0} {sv : Service O R} {kp : Keeper sv} (alone : Alone sv kp
   pub evens : {x y : ℕ} (p : Pair alone x y) (n : Now alone) (mx : Memory O) (dx : Disks sv kp) (my : Memory O) (dy : Disks sv kp) → n.v.house x ≡ on mx dx → n.v.house y ≡ on my dy → Evens n (24 * alone.keeps.most + 42) x y
   evens {x} {y} p n mx dx my dy ex ey = first (levels p n mx dx my dy ex ey)
     where
-      third : (l : Both alone n (6 * alone.keeps.most + 9) x y) (a : Met alone l.then x y l.mx l.dx l.dy) (b : Met alone a.then y x a.my a.dy a.dx) →
+      -- y has heard of x again, and is as far
+      fourth : (l : Both alone n (6 * alone.keeps.most + 9) x y) (a : Met alone l.then x y l.mx l.dx l.dy) (b : Met alone a.then y x a.my a.dy a.dx) →
           b.dy.agreeing.promised ≡ b.dx.agreeing.promised → b.my.lead ≢ suc b.dy.agreeing.promised → Met alone b.then x y b.my b.dy b.dx → Evens n (24 * alone.keeps.most + 42) x y
-      third l a b bp nl c =
+      fourth l a b bp nl c =
           record {
             then = c.then;
             even = record { mx = c.mx; dx = c.dx; my = c.my; dy = c.dy; x_is = c.x_is; y_is = c.y_is; x_level = c.x_level; y_level = c.y_level; vers = c.as_far nl b.far; proms = cp; x_not = c.not_led nl; y_not = λ e. p.ne (sym ((facts alone c.then y c.my c.dy p.ly c.y_is).own e) ∙ ap (λ k. k % 3) cp ∙ c.own) };
@@ -69,14 +72,16 @@ module _ {O R : Type 0} {sv : Service O R} {kp : Keeper sv} (alone : Alone sv kp
           cp : c.dy.agreeing.promised ≡ c.dx.agreeing.promised
           cp = omega (arith, c.prom_is, c.low, bp)
 
-      next : (l : Both alone n (6 * alone.keeps.most + 9) x y) (a : Met alone l.then x y l.mx l.dx l.dy) → Met alone a.then y x a.my a.dy a.dx → Evens n (24 * alone.keeps.most + 42) x y
-      next l a b = third l a b bp (λ e. p.ne (sym b.own ∙ ap (λ k. k % 3) (sym bp) ∙ (facts alone b.then x b.my b.dy p.lx b.y_is).own e)) (meets alone p b.then b.my b.mx b.dy b.dx b.y_is b.x_is b.y_level b.x_level)
+      -- x has heard of y: its promise is y's ballot, so it doesn't lead, and y is no further
+      third : (l : Both alone n (6 * alone.keeps.most + 9) x y) (a : Met alone l.then x y l.mx l.dx l.dy) → Met alone a.then y x a.my a.dy a.dx → Evens n (24 * alone.keeps.most + 42) x y
+      third l a b = fourth l a b bp (λ e. p.ne (sym b.own ∙ ap (λ k. k % 3) (sym bp) ∙ (facts alone b.then x b.my b.dy p.lx b.y_is).own e)) (meets alone p b.then b.my b.mx b.dy b.dx b.y_is b.x_is b.y_level b.x_level)
         where
           bp : b.dy.agreeing.promised ≡ b.dx.agreeing.promised
           bp = omega (arith, b.prom_is, b.low, a.prom_is)
 
+      -- y has heard of x, and is no less far
+      second : (l : Both alone n (6 * alone.keeps.most + 9) x y) → Met alone l.then x y l.mx l.dx l.dy → Evens n (24 * alone.keeps.most + 42) x y
+      second l a = third l a (meets alone (swap alone p) a.then a.my a.mx a.dy a.dx a.y_is a.x_is a.y_level a.x_level)
+
       first : Both alone n (6 * alone.keeps.most + 9) x y → Evens n (24 * alone.keeps.most + 42) x y
-      first l = by_met l (meets alone p l.then l.mx l.my l.dx l.dy l.x_is l.y_is l.x_level l.y_level)
-        where
-          by_met : (l : Both alone n (6 * alone.keeps.most + 9) x y) → Met alone l.then x y l.mx l.dx l.dy → Evens n (24 * alone.keeps.most + 42) x y
-          by_met l a = next l a (meets alone (swap alone p) a.then a.my a.mx a.dy a.dx a.y_is a.x_is a.y_level a.x_level)
+      first l = second l (meets alone p l.then l.mx l.my l.dx l.dy l.x_is l.y_is l.x_level l.y_level)

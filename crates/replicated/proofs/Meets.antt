@@ -1,4 +1,5 @@
--- Two copies meet: both become level and as far, with the same promise, and neither leads.
+-- A copy meets another, both level: it says its status under its own ballot, which takes four ticks at most, and the other hears of it. If
+-- that one is behind, it learns or catches up at once. So it is no less far then, and has promised no less.
 use Rattle.std.specs.Prelude.{◌≡◌, ℕ, zero, suc, ◌+◌, ◌*◌, ◌%◌, max, not}
 use Rattle.std.proofs.Common.{◌<◌, ◌≤◌, ◌≢◌, sym, refl, ap, ◌∙◌, subst, inl, inr, arith}
 use mathlib.Core.List.{Memᴰ}

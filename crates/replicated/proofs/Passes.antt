@@ -1,4 +1,6 @@
--- A copy that recovers catches up with one that is level: pass by pass, part by part.
+-- A copy that recovers catches up with one that is level. While only these two act, all parts are of one version. A part is taken, and then
+-- less is left; or there was no place for it, and it begins again from nothing. At the end of a pass whose parts were all of one version the
+-- copy is level. So the pass under way ends; the next is of one version; and if that finds no place, one from nothing does.
 use Rattle.std.specs.Prelude.{◌≡◌, ℕ, zero, suc, ◌+◌, ◌*◌, not, Option, Some, None}
 use Rattle.std.proofs.Common.{◌<◌, ◌≤◌, ◌⊎◌, sym, refl, ap, ◌∙◌, subst, inl, inr, arith}
 use mathlib.Core.List.{Memᴰ}

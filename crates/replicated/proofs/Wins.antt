@@ -87,7 +87,7 @@ module _ {O R : Type 0} {sv : Service O R} {kp : Keeper sv} (alone : Alone sv kp
 
   -- z leads, when u and then z itself were elected
   pub wins : {z u : ℕ} (p : Pair alone z u) (n : Now alone) (mz : Memory O) (dz : Disks sv kp) → Calm n z u mz dz → Won n 11 z u mz dz
-  wins {z} {u} p n mz dz a = one (elects_x alone (swap alone p) n a.mu mz a.du dz a.u_is a.z_is a.u_level a.u_not)
+  wins {z} {u} p n mz dz a = first (elects_x alone (swap alone p) n a.mu mz a.du dz a.u_is a.z_is a.u_level a.u_not)
     where
       ver : {a b : Agreeing O} → a ≡ b → a.version ≡ b.version
       ver e = ap (λ (s : Agreeing O). s.version) e
@@ -104,8 +104,9 @@ module _ {O R : Type 0} {sv : Service O R} {kp : Keeper sv} (alone : Alone sv kp
       El : (m : Now alone) (x y : ℕ) (mx : Memory O) (dx : Disks sv kp) (my : Memory O) (dy : Disks sv kp) → Type 0
       El m x y mx dx my dy = Elects alone m 4 x y mx dx my dy
 
-      last : (b : El n u z a.mu a.du mz dz) (c : Follows b.then u z b.m b.d mz dz b.p) (d : El c.then z u c.m c.d b.m b.d) (e : Follows d.then z u d.m d.d b.m b.d d.p) → d.d.agreeing.recovery ≡ level → e.d.agreeing.recovery ≡ level → d.d.agreeing.version ≡ e.d.agreeing.version → d.d.agreeing.promised ≡ d.p → e.d.agreeing.promised ≡ d.p → b.d.agreeing.version ≡ e.d.agreeing.version → b.d.agreeing.recovery ≡ level → b.d.agreeing.promised < d.p → Won n 11 z u mz dz
-      last b c d e dl el ve dp ep bv bl lt =
+      -- z hears that u promised its ballot, and leads
+      fifth : (b : El n u z a.mu a.du mz dz) (c : Follows b.then u z b.m b.d mz dz b.p) (d : El c.then z u c.m c.d b.m b.d) (e : Follows d.then z u d.m d.d b.m b.d d.p) → d.d.agreeing.recovery ≡ level → e.d.agreeing.recovery ≡ level → d.d.agreeing.version ≡ e.d.agreeing.version → d.d.agreeing.promised ≡ d.p → e.d.agreeing.promised ≡ d.p → b.d.agreeing.version ≡ e.d.agreeing.version → b.d.agreeing.recovery ≡ level → b.d.agreeing.promised < d.p → Won n 11 z u mz dz
+      fifth b c d e dl el ve dp ep bv bl lt =
           record {
             then = h.then;
             m = (with_turn sv kp (goes_on (on_status u X (turn_of sv kp d.m d.d))) (begins sv kp d.m d.d)).turn.memory;
@@ -128,14 +129,17 @@ module _ {O R : Type 0} {sv : Service O R} {kp : Keeper sv} (alone : Alone sv kp
           h : Step alone e.then z u (with_turn sv kp (goes_on (on_status u X (turn_of sv kp d.m d.d))) (begins sv kp d.m d.d)) e.m e.d
           h = step_to alone (told_is sv kp u X d.m d.d t.work_is) (hear_x alone p e.then e.x_is e.y_is (Told X) (e.said lt))
 
-      by_second : (b : El n u z a.mu a.du mz dz) (c : Follows b.then u z b.m b.d mz dz b.p) (d : El c.then z u c.m c.d b.m b.d) → b.d.agreeing.recovery ≡ level → c.d.agreeing.recovery ≡ level → b.d.agreeing.version ≡ c.d.agreeing.version → b.d.agreeing.promised ≡ c.d.agreeing.promised → Follows d.then z u d.m d.d b.m b.d d.p → Won n 11 z u mz dz
-      by_second b c d bl cl ve pr e = last b c d e (rec d.agreeing_is ∙ cl) (rec e.agreeing_is ∙ bl) (omega (arith, ver d.agreeing_is, ver e.agreeing_is, ve)) (prom d.agreeing_is) (prom e.agreeing_is) (sym (ver e.agreeing_is)) bl (omega (arith, d.over, pr))
+      -- u has heard of z
+      fourth : (b : El n u z a.mu a.du mz dz) (c : Follows b.then u z b.m b.d mz dz b.p) (d : El c.then z u c.m c.d b.m b.d) → b.d.agreeing.recovery ≡ level → c.d.agreeing.recovery ≡ level → b.d.agreeing.version ≡ c.d.agreeing.version → b.d.agreeing.promised ≡ c.d.agreeing.promised → Follows d.then z u d.m d.d b.m b.d d.p → Won n 11 z u mz dz
+      fourth b c d bl cl ve pr e = fifth b c d e (rec d.agreeing_is ∙ cl) (rec e.agreeing_is ∙ bl) (omega (arith, ver d.agreeing_is, ver e.agreeing_is, ve)) (prom d.agreeing_is) (prom e.agreeing_is) (sym (ver e.agreeing_is)) bl (omega (arith, d.over, pr))
 
-      two : (b : El n u z a.mu a.du mz dz) (c : Follows b.then u z b.m b.d mz dz b.p) → b.d.agreeing.recovery ≡ level → c.d.agreeing.recovery ≡ level → b.d.agreeing.version ≡ c.d.agreeing.version → b.d.agreeing.promised ≡ c.d.agreeing.promised → El c.then z u c.m c.d b.m b.d → Won n 11 z u mz dz
-      two b c bl cl ve pr d = by_second b c d bl cl ve pr (follows p d.then d.m b.m d.d b.d d.x_is d.y_is (status_now sv kp (raised d.p c.d.agreeing)) d.said bl (told_level cl) ve (omega (arith, pr, d.over)) d.own d.rank_low)
+      -- z is elected
+      third : (b : El n u z a.mu a.du mz dz) (c : Follows b.then u z b.m b.d mz dz b.p) → b.d.agreeing.recovery ≡ level → c.d.agreeing.recovery ≡ level → b.d.agreeing.version ≡ c.d.agreeing.version → b.d.agreeing.promised ≡ c.d.agreeing.promised → El c.then z u c.m c.d b.m b.d → Won n 11 z u mz dz
+      third b c bl cl ve pr d = fourth b c d bl cl ve pr (follows p d.then d.m b.m d.d b.d d.x_is d.y_is (status_now sv kp (raised d.p c.d.agreeing)) d.said bl (told_level cl) ve (omega (arith, pr, d.over)) d.own d.rank_low)
 
-      by_follows : (b : El n u z a.mu a.du mz dz) → Follows b.then u z b.m b.d mz dz b.p → Won n 11 z u mz dz
-      by_follows b c = two b c (rec b.agreeing_is ∙ a.u_level) (rec c.agreeing_is ∙ a.z_level) (omega (arith, ver b.agreeing_is, ver c.agreeing_is, a.vers)) (prom b.agreeing_is ∙ sym (prom c.agreeing_is)) (elects_x alone p c.then c.m b.m c.d b.d c.y_is c.x_is (rec c.agreeing_is ∙ a.z_level) c.not_led)
+      -- z has heard of u
+      second : (b : El n u z a.mu a.du mz dz) → Follows b.then u z b.m b.d mz dz b.p → Won n 11 z u mz dz
+      second b c = third b c (rec b.agreeing_is ∙ a.u_level) (rec c.agreeing_is ∙ a.z_level) (omega (arith, ver b.agreeing_is, ver c.agreeing_is, a.vers)) (prom b.agreeing_is ∙ sym (prom c.agreeing_is)) (elects_x alone p c.then c.m b.m c.d b.d c.y_is c.x_is (rec c.agreeing_is ∙ a.z_level) c.not_led)
 
-      one : El n u z a.mu a.du mz dz → Won n 11 z u mz dz
-      one b = by_follows b (follows (swap alone p) b.then b.m mz b.d dz b.x_is b.y_is (status_now sv kp (raised b.p a.du.agreeing)) b.said a.z_level (told_level a.u_level) (sym a.vers) (omega (arith, a.proms, b.over)) b.own b.rank_low)
+      first : El n u z a.mu a.du mz dz → Won n 11 z u mz dz
+      first b = second b (follows (swap alone p) b.then b.m mz b.d dz b.x_is b.y_is (status_now sv kp (raised b.p a.du.agreeing)) b.said a.z_level (told_level a.u_level) (sym a.vers) (omega (arith, a.proms, b.over)) b.own b.rank_low)
