@@ -59,10 +59,6 @@ module _ {B : Type 0} where
   overwritten [] f = f
   overwritten (c ∷ cs) f = overwritten cs (λ k. cond (k == c.key) c.block (f k))
 
-  unfoldable pub touches : List (Change B) → ℕ → Bool
-  touches [] k = false
-  touches (c ∷ cs) k = cond (k == c.key) true (touches cs k)
-
   unfoldable pub lookup : ℕ → List (Stamped B) → Option (Stamped B)
   lookup k [] = None
   lookup k (b ∷ bs) = cond (k == b.key) (Some b) (lookup k bs)
@@ -82,7 +78,7 @@ module _ {O R : Type 0} (sv : Service O R) (kp : Keeper sv) where
   -- what a portion says of a key in its range
   abbrev pub Portioned : (whole : Bool) (base : ℕ) → kp.Kept → ℕ → Option (Stamped sv.Block) → Type 0
   Portioned whole base s k (Some b) = (b.block ≡ kp.look s k) × (b.stamp ≡ kp.stamp s k)
-  Portioned true base s k None = kp.look s k ≡ sv.empty
+  Portioned true base s k None = (kp.look s k ≡ sv.empty) × (kp.stamp s k ≤ kp.floor s)
   Portioned false base s k None = kp.stamp s k ≤ base
 
   -- what a key in its range is when it was taken over
@@ -95,8 +91,9 @@ module _ {O R : Type 0} (sv : Service O R) (kp : Keeper sv) where
   pub record Keeps : Type 1 where
     pub none_empty : (k : ℕ) → kp.look kp.none k ≡ sv.empty
     pub write_look : (r : sv.Rest) (v : ℕ) (cs : List (Change sv.Block)) (s : kp.Kept) (k : ℕ) → sv.gone r k ≡ false → kp.look (kp.write r v cs s) k ≡ overwritten cs (kp.look s) k
-    pub write_old : (r : sv.Rest) (v : ℕ) (cs : List (Change sv.Block)) (s : kp.Kept) (k : ℕ) → sv.gone r k ≡ false → touches cs k ≡ false → age s k ≤ age (kp.write r v cs s) k
-    pub write_new : (r : sv.Rest) (v : ℕ) (cs : List (Change sv.Block)) (s : kp.Kept) (k : ℕ) → sv.gone r k ≡ false → touches cs k ≡ true → v ≤ age (kp.write r v cs s) k
+    -- a block has the version as its stamp, or is what it was
+    pub write_age : (r : sv.Rest) (v : ℕ) (cs : List (Change sv.Block)) (s : kp.Kept) (k : ℕ) → sv.gone r k ≡ false →
+        (v ≤ age (kp.write r v cs s) k) ⊎ ((overwritten cs (kp.look s) k ≡ kp.look s k) × (age s k ≤ age (kp.write r v cs s) k))
     pub portion_is : (r : sv.Rest) (whole : Bool) (base key : ℕ) (s : kp.Kept) (k : ℕ) → sv.gone r k ≡ false → in_range key (kp.portion r whole base key s).next k ≡ true →
         Portioned whole base s k (lookup k (kp.portion r whole base key s).blocks)
     pub take_in : (r : sv.Rest) (whole : Bool) (key : ℕ) (next : Option ℕ) (floor : ℕ) (bs : List (Stamped sv.Block)) (s t : kp.Kept) (k : ℕ) → kp.take r whole key next floor bs s ≡ Some t → sv.gone r k ≡ false → in_range key next k ≡ true → Taken whole floor s t k (lookup k bs)

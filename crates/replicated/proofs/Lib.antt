@@ -1,0 +1,10 @@
+pub mod Lists
+pub mod Pending
+pub mod Replay
+pub mod Caught
+pub mod Like
+pub mod Sent
+pub mod StoredFirst
+pub mod Fits
+pub mod Numbered
+pub mod Busy
