@@ -21,3 +21,5 @@ pub mod StoredFirst
 pub mod Fits
 pub mod Numbered
 pub mod Busy
+pub mod Cells
+pub mod Alive
