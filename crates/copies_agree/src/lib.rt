@@ -4,12 +4,13 @@
 
 ghost use Rattle.copies.specs.Service.{Lawful};
 ghost use Rattle.copies.specs.Cells.{cells, Alive, CatchesUp};
-ghost use Rattle.copies_agree.specs.Held.{AgreementHeld, AsOneHeld, BusyHeld, StoredFirstHeld, CellsKept};
+ghost use Rattle.copies_agree.specs.Held.{AgreementHeld, CaughtUpHeld, AsOneHeld, BusyHeld, StoredFirstHeld, CellsKept};
 
 // There is one sequence of commands, and each copy has, whenever it is looked at, the state after the first of them; one that catches up
 // has each block as it was after so many, from its base to its top.
 pub fn copies_agree()
-    ensures { AgreementHeld }
+    ensures agree { AgreementHeld }
+    ensures caught_up { CaughtUpHeld }
 {}
 
 // The houses are as one place, and nothing is ever cut.

@@ -23,3 +23,4 @@ pub mod Numbered
 pub mod Busy
 pub mod Cells
 pub mod Alive
+pub mod CaughtUp
