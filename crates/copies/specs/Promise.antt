@@ -103,6 +103,15 @@ Agreement =
     (O R : Type 0) (sv : Service O R) (kp : Keeper sv) (ok : Guard sv kp) → Lawful sv → Keeps sv kp → (all : ℕ) → (es : List (Seen O R)) (w : World (Memory O) (Disks sv kp) (Messages sv kp)) (t : Trace (replicated sv kp ok) all es w) →
     (ks : List (Command O)) × ((u : World (Memory O) (Disks sv kp) (Messages sv kp)) → Passed t u → (i : ℕ) → i < 3 → Agrees sv kp ks (stored_at (u.house i)))
 
+-- A copy that is level has exactly the state after its version's commands, also one that has recovered; what one that recovers has is,
+-- block by block, that of some version from its base to its top.
+abbrev pub CaughtUp : Type 1
+CaughtUp =
+    (O R : Type 0) (sv : Service O R) (kp : Keeper sv) (ok : Guard sv kp) → Lawful sv → Keeps sv kp → (all : ℕ) → (es : List (Seen O R)) (w : World (Memory O) (Disks sv kp) (Messages sv kp)) (t : Trace (replicated sv kp ok) all es w) →
+    (ks : List (Command O)) × ((u : World (Memory O) (Disks sv kp) (Messages sv kp)) → Passed t u → (i : ℕ) → i < 3 →
+    ((stored_at (u.house i)).agreeing.recovery ≡ level → (f : First sv kp ks (stored_at (u.house i)).agreeing.version) × ((stored_at (u.house i)).sessions ≡ (replay sv f.older).sessions) × ((stored_at (u.house i)).rest ≡ (replay sv f.older).place.rest) × ((k : ℕ) → ShowsKey sv kp (stored_at (u.house i)).kept f.older k)) ×
+    ((base top : ℕ) → (stored_at (u.house i)).agreeing.recovery ≡ recovers base top → Between sv kp ks (stored_at (u.house i)).kept base top))
+
 -- Each status was what its sender stored, before it was sent.
 abbrev pub StoredFirst : Type 1
 StoredFirst =

@@ -21,6 +21,8 @@ pub record Service (O R : Type 0) : Type 1 where
   pub changes : O → Rest → (ℕ → Block) → List (Change Block)
   -- a block that no call will ask for again
   pub gone : Rest → ℕ → Bool
+  -- what there is room for: no call leaves more
+  pub HasRoom : Rest → (ℕ → Block) → Type 0
   pub says : A → R
   pub busy : R
 
@@ -63,11 +65,14 @@ module _ {B : Type 0} where
   lookup k [] = None
   lookup k (b ∷ bs) = cond (k == b.key) (Some b) (lookup k bs)
 
--- What a service must be: gone stays gone, and no call asks for what is gone.
+-- What a service must be: gone stays gone, and no call asks for what is gone; there is room for what calls leave.
 pub record Lawful {O R : Type 0} (sv : Service O R) : Type 0 where
   pub gone_stays : (o : O) (r : sv.Rest) (f : ℕ → sv.Block) (k : ℕ) → sv.gone r k ≡ true → sv.gone (sv.next o r f) k ≡ true
   pub agrees : (o : O) (r : sv.Rest) (f g : ℕ → sv.Block) → ((k : ℕ) → (sv.gone r k ≡ true) ⊎ (f k ≡ g k)) →
       (sv.reply o r f ≡ sv.reply o r g) × (sv.next o r f ≡ sv.next o r g) × (sv.changes o r f ≡ sv.changes o r g)
+  pub room_first : sv.HasRoom sv.first (λ k. sv.empty)
+  pub room_stays : (o : O) (r : sv.Rest) (f : ℕ → sv.Block) → sv.HasRoom r f → sv.HasRoom (sv.next o r f) (overwritten (sv.changes o r f) f)
+  pub room_same : (r : sv.Rest) (f g : ℕ → sv.Block) → ((k : ℕ) → (sv.gone r k ≡ true) ⊎ (f k ≡ g k)) → sv.HasRoom r f → sv.HasRoom r g
   pub unlike : (a : sv.A) → sv.says a ≡ sv.busy → ⊥
 
 module _ {O R : Type 0} (sv : Service O R) (kp : Keeper sv) where
@@ -87,12 +92,12 @@ module _ {O R : Type 0} (sv : Service O R) (kp : Keeper sv) where
   Taken true floor s t k None = kp.look t k ≡ sv.empty
   Taken false floor s t k None = (kp.look t k ≡ kp.look s k) × (age s k ≤ age t k)
 
-  -- What a keeper must be, of all keys that aren't gone.
+  -- What a keeper must be, of all keys that aren't gone. It need write no more than there is room for.
   pub record Keeps : Type 1 where
     pub none_empty : (k : ℕ) → kp.look kp.none k ≡ sv.empty
-    pub write_look : (r : sv.Rest) (v : ℕ) (cs : List (Change sv.Block)) (s : kp.Kept) (k : ℕ) → sv.gone r k ≡ false → kp.look (kp.write r v cs s) k ≡ overwritten cs (kp.look s) k
+    pub write_look : (r : sv.Rest) (v : ℕ) (cs : List (Change sv.Block)) (s : kp.Kept) (k : ℕ) → sv.HasRoom r (overwritten cs (kp.look s)) → sv.gone r k ≡ false → kp.look (kp.write r v cs s) k ≡ overwritten cs (kp.look s) k
     -- a block has the version as its stamp, or is what it was
-    pub write_age : (r : sv.Rest) (v : ℕ) (cs : List (Change sv.Block)) (s : kp.Kept) (k : ℕ) → sv.gone r k ≡ false →
+    pub write_age : (r : sv.Rest) (v : ℕ) (cs : List (Change sv.Block)) (s : kp.Kept) (k : ℕ) → sv.HasRoom r (overwritten cs (kp.look s)) → sv.gone r k ≡ false →
         (v ≤ age (kp.write r v cs s) k) ⊎ ((overwritten cs (kp.look s) k ≡ kp.look s k) × (age s k ≤ age (kp.write r v cs s) k))
     pub portion_is : (r : sv.Rest) (whole : Bool) (base key : ℕ) (s : kp.Kept) (k : ℕ) → sv.gone r k ≡ false → in_range key (kp.portion r whole base key s).next k ≡ true →
         Portioned whole base s k (lookup k (kp.portion r whole base key s).blocks)

@@ -1,6 +1,6 @@
 -- A call is answered by busy only at once, and only where eight wait.
 use Rattle.std.specs.Prelude.{◌≡◌, ℕ, suc, ◌+◌, ◌≤◌, true, cond, not, ◌&&◌, T, List, [], ◌∷◌, ◌++◌, length, nat_le, ◌==◌, eqb}
-use Rattle.std.proofs.Common.{◌≢◌, sym, refl, ap, ◌∙◌, subst, inl, inr, arith, eq-eqb, eqb-true, leb-true}
+use Rattle.std.proofs.Common.{◌≢◌, sym, refl, ap, ◌∙◌, subst, inl, inr, arith, eq-eqb, eqb-true, leb-true, length-append}
 use mathlib.Core.List.Memᴰ
 use mathlib.Core.List.{Memᴰ}
 use Rattle.agreement.proofs.Base.{by_test, by_both}
@@ -137,9 +137,9 @@ module _ {O R : Type 0} (sv : Service O R) (kp : Keeper sv) where
   counts_of : (pend : List Asking) (j : ℕ) (s : Stand (Memory O) (Disks sv kp)) (m : Memory O) (d : Disks sv kp) → s ≡ on m d → Counts pend j s → Counts pend j (on m d)
   counts_of pend j s m d e c = subst (Counts pend j) e c
 
-  size_more : (x : Item O) (w : List (Item O)) (u : Way O) → size (x ∷ w) u ≡ suc (size w u)
-  size_more x w free = refl
-  size_more x w (under b) = omega arith
+  size_more : (x : Item O) (w : List (Item O)) (u : Way O) → size (w ++ x ∷ []) u ≡ suc (size w u)
+  size_more x w free = omega (arith, length-append w (x ∷ []))
+  size_more x w (under b) = omega (arith, length-append w (x ∷ []))
 
   asking_used : (es : List (Seen O R)) (i k : ℕ) (o : O) (pend : List Asking) → ((a : Asking) → Memᴰ a pend → is_used a.id es ≡ true) → (a : Asking) → Memᴰ a pend → is_used a.id (called i k o ∷ es) ≡ true
   unfolding is_used

@@ -1,5 +1,5 @@
 -- A call is let in, refused, or let pass.
-use Rattle.std.proofs.Common.{◌≡◌, ℕ, suc, true, not, T, eqb, ◌≢◌, List, [], ◌∷◌, sym, refl, ap, ◌∙◌, subst, inl, inr, arith, eq-eqb}
+use Rattle.std.proofs.Common.{◌≡◌, ℕ, suc, true, not, T, eqb, ◌≢◌, List, [], ◌∷◌, ◌++◌, sym, refl, ap, ◌∙◌, subst, inl, inr, arith, eq-eqb}
 use mathlib.Core.List.Memᴰ
 use mathlib.Core.List.{Memᴰ}
 use Rattle.agreement.specs.Copies.{Copy}
@@ -75,7 +75,7 @@ module _ {O R : Type 0} (sv : Service O R) (kp : Keeper sv) where
             inc_is = o.inc_is;
             asked_low = λ y m e. elim (Memᴰ.cases_cons m) [ inl f ↦ inr (ap (λ (z : Homed O). z.incarnation) f, omega (arith, ap (λ (z : Homed O). z.counter) f)) | inr n ↦ o.asked_low y n e ];
             made_low = o.made_low;
-            wait_is = ap (λ (z : List (Item O)). item a ∷ z) o.wait_is ∙ sym (slot_take a v.good.asked c.i w.turn.memory.incarnation (suc w.turn.memory.counter) refl refl refl);
+            wait_is = ap (λ (z : List (Item O)). z ++ item a ∷ []) o.wait_is ∙ sym (slot_take a v.good.asked c.i w.turn.memory.incarnation (suc w.turn.memory.counter) refl refl refl);
             way_is = o.way_is;
             heard_is = o.heard_is;
             lead_is = o.lead_is;

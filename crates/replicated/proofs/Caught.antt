@@ -125,6 +125,29 @@ module _ {O R : Type 0} (sv : Service O R) (kp : Keeper sv) where
     gone_later [] older k e = e
     gone_later (c ∷ newer) older k e = command_gone c (replay sv (newer ++ older)) k (gone_later newer older k e)
 
+    -- there is room for what was played
+    abbrev Roomy : Place sv → Type 0
+    Roomy p = sv.HasRoom p.rest p.blocks
+
+    leaves_room : (xs : List (Item O)) (p : Place sv) → Roomy p → Roomy (leaves sv xs p)
+    unfolding leaves
+    leaves_room [] p e = e
+    leaves_room (x ∷ xs) p e = leaves_room xs (left_by sv x.call p) (laws.room_stays x.call p.rest p.blocks e)
+
+    bundle_room : (b : Bundle O) (v : Played sv) → Roomy v.place → Roomy (bundle_played sv b v).place
+    unfolding bundle_played
+    bundle_room b v e = by_test (λ (z : Played sv). Roomy z.place) (is_new b v.sessions) (λ _. leaves_room b.calls v.place e) (λ _. e)
+
+    command_room : (c : Command O) (v : Played sv) → Roomy v.place → Roomy (command_played sv c v).place
+    unfolding command_played
+    command_room [] v e = e
+    command_room (b ∷ c) v e = command_room c (bundle_played sv b v) (bundle_room b v e)
+
+    replay_room : (h : List (Command O)) → Roomy (replay sv h).place
+    unfolding replay
+    replay_room [] = laws.room_first
+    replay_room (c ∷ h) = command_room c (replay sv h) (replay_room h)
+
   module _ (laws : Lawful sv) (keeps : Keeps sv kp) where
     -- A COMMAND DONE, in the midst of it: what was played since h changed only blocks that have h's next version.
     module _ (h : List (Command O)) where
@@ -143,8 +166,8 @@ module _ {O R : Type 0} (sv : Service O R) (kp : Keeper sv) where
       seen_same : (p : Place sv) (s : kp.Kept) → Mid p s → (k : ℕ) → (sv.gone p.rest k ≡ true) ⊎ (kp.look s k ≡ p.blocks k)
       seen_same p s m k = elim (m k) [ inl e ↦ inl e | inr y ↦ inr y.0 ]
 
-      call_mid : (o : O) (p : Place sv) (s : kp.Kept) → Mid p s → Mid (left_by sv o p) (kp.write (left_by sv o p).rest (suc (length h)) (sv.changes o p.rest p.blocks) s)
-      call_mid o p s m k = known (sv.gone q.rest k) inl (λ n. elim (m k) [ inl e ↦ never (sym (laws.gone_stays o p.rest p.blocks k e) ∙ n) | inr y ↦ inr (keeps.write_look q.rest ver cs s k n ∙ overwritten_at cs (kp.look s) p.blocks k y.0, since n y.0 y.1) ])
+      call_mid : (o : O) (p : Place sv) (s : kp.Kept) → sv.HasRoom p.rest p.blocks → Mid p s → Mid (left_by sv o p) (kp.write (left_by sv o p).rest (suc (length h)) (sv.changes o p.rest p.blocks) s)
+      call_mid o p s w m k = known (sv.gone q.rest k) inl (λ n. elim (m k) [ inl e ↦ never (sym (laws.gone_stays o p.rest p.blocks k e) ∙ n) | inr y ↦ inr (keeps.write_look q.rest ver cs s k room n ∙ overwritten_at cs (kp.look s) p.blocks k y.0, since n y.0 y.1) ])
         where
           q : Place sv
           q = left_by sv o p
@@ -158,33 +181,39 @@ module _ {O R : Type 0} (sv : Service O R) (kp : Keeper sv) where
           u : kp.Kept
           u = kp.write q.rest ver cs s
 
+          room : sv.HasRoom q.rest (overwritten cs (kp.look s))
+          room =
+              laws.room_same q.rest q.blocks (overwritten cs (kp.look s))
+              (λ j. elim (m j) [ inl e ↦ inl (laws.gone_stays o p.rest p.blocks j e) | inr y ↦ inr (overwritten_at cs p.blocks (kp.look s) j (sym y.0)) ])
+              (laws.room_stays o p.rest p.blocks w)
+
           since : sv.gone q.rest k ≡ false → kp.look s k ≡ p.blocks k → Since p s k → Since q u k
-          since n e y = elim (keeps.write_age q.rest ver cs s k n) [ inl l ↦ inr l | inr z ↦ kept (sym (overwritten_at cs (kp.look s) p.blocks k e) ∙ z.0 ∙ e) z.1 y ]
+          since n e y = elim (keeps.write_age q.rest ver cs s k room n) [ inl l ↦ inr l | inr z ↦ kept (sym (overwritten_at cs (kp.look s) p.blocks k e) ∙ z.0 ∙ e) z.1 y ]
             where
               kept : overwritten cs p.blocks k ≡ p.blocks k → age sv kp s k ≤ age sv kp u k → Since p s k → Since q u k
               kept f l (inl z) = inl (f ∙ z.0, aged_more (age sv kp s k) (age sv kp u k) k h l z.1)
               kept f l (inr y) = inr (omega (arith, l, y))
 
-      runs_mid : (xs : List (Item O)) (p : Place sv) (s : kp.Kept) → Mid p s → Follows (runs sv kp (suc (length h)) xs p.rest s) (replies sv xs p) (leaves sv xs p)
+      runs_mid : (xs : List (Item O)) (p : Place sv) (s : kp.Kept) → sv.HasRoom p.rest p.blocks → Mid p s → Follows (runs sv kp (suc (length h)) xs p.rest s) (replies sv xs p) (leaves sv xs p)
       unfolding runs replies leaves
-      runs_mid [] p s m = (refl, refl, m)
-      runs_mid (x ∷ xs) p s m =
+      runs_mid [] p s w m = (refl, refl, m)
+      runs_mid (x ∷ xs) p s w m =
           let q = left_by sv x.call p in
           let a = laws.agrees x.call p.rest (kp.look s) p.blocks (seen_same p s m) in
-          let f : Follows (runs sv kp (suc (length h)) xs q.rest (kp.write q.rest (suc (length h)) (sv.changes x.call p.rest p.blocks) s)) (replies sv xs q) (leaves sv xs q) = runs_mid xs q _ (call_mid x.call p s m) in
+          let f : Follows (runs sv kp (suc (length h)) xs q.rest (kp.write q.rest (suc (length h)) (sv.changes x.call p.rest p.blocks) s)) (replies sv xs q) (leaves sv xs q) = runs_mid xs q _ (laws.room_stays x.call p.rest p.blocks w) (call_mid x.call p s w m) in
           let f' : Follows (runs sv kp (suc (length h)) xs q.rest (kp.write q.rest (suc (length h)) (sv.changes x.call p.rest (kp.look s)) s)) (replies sv xs q) (leaves sv xs q) =
           subst (λ (z : List (Change sv.Block)). Follows (runs sv kp (suc (length h)) xs q.rest (kp.write q.rest (suc (length h)) z s)) (replies sv xs q) (leaves sv xs q)) (sym a.2) f in
           let z : Follows (runs sv kp (suc (length h)) xs (sv.next x.call p.rest (kp.look s)) (kp.write (sv.next x.call p.rest (kp.look s)) (suc (length h)) (sv.changes x.call p.rest (kp.look s)) s)) (replies sv xs q) (leaves sv xs q) =
           subst (λ (z : sv.Rest). Follows (runs sv kp (suc (length h)) xs z (kp.write z (suc (length h)) (sv.changes x.call p.rest (kp.look s)) s)) (replies sv xs q) (leaves sv xs q)) (sym a.1) f' in
           (λ j. record { id = x.id; reply = a.0 j } ∷ z.0 j, z.1, z.2)
 
-      bundle_mid : (b : Bundle O) (z : State sv kp) (v : Played sv) → Mirrors z v → Mirrors (bundle_done sv kp (suc (length h)) b z) (bundle_played sv b v)
+      bundle_mid : (b : Bundle O) (z : State sv kp) (v : Played sv) → sv.HasRoom v.place.rest v.place.blocks → Mirrors z v → Mirrors (bundle_done sv kp (suc (length h)) b z) (bundle_played sv b v)
       unfolding bundle_done bundle_played
-      bundle_mid b z v m = moved (sym m.0) (sym m.1)
+      bundle_mid b z v w m = moved (sym m.0) (sym m.1)
         where
           done : (t : Bool) → Mirrors (cond t (fulfilled sv kp b v.sessions (runs sv kp (suc (length h)) b.calls v.place.rest z.kept)) (record { sessions = v.sessions; rest = v.place.rest; kept = z.kept })) (cond t (fulfils sv b v) v)
           done true =
-              let f = runs_mid b.calls v.place z.kept m.2 in
+              let f = runs_mid b.calls v.place z.kept w m.2 in
               (ap (λ (rs : List (Reply sv.A)). put b.house (record { incarnation = b.incarnation; counter = b.counter; replies = rs }) v.sessions) f.0, f.1, f.2)
           done false = (refl, refl, m.2)
 
@@ -193,10 +222,10 @@ module _ {O R : Type 0} (sv : Service O R) (kp : Keeper sv) where
               subst (λ (r : sv.Rest). Mirrors (bundle_done sv kp (suc (length h)) b (record { sessions = ss; rest = r; kept = z.kept })) (bundle_played sv b v)) f
               (subst (λ (ss : ℕ → Session sv.A). Mirrors (bundle_done sv kp (suc (length h)) b (record { sessions = ss; rest = v.place.rest; kept = z.kept })) (bundle_played sv b v)) e (done (is_new b v.sessions)))
 
-      command_mid : (c : Command O) (z : State sv kp) (v : Played sv) → Mirrors z v → Mirrors (command_done sv kp (suc (length h)) c z) (command_played sv c v)
+      command_mid : (c : Command O) (z : State sv kp) (v : Played sv) → sv.HasRoom v.place.rest v.place.blocks → Mirrors z v → Mirrors (command_done sv kp (suc (length h)) c z) (command_played sv c v)
       unfolding command_done command_played
-      command_mid [] z v m = m
-      command_mid (b ∷ c) z v m = command_mid c (bundle_done sv kp (suc (length h)) b z) (bundle_played sv b v) (bundle_mid b z v m)
+      command_mid [] z v w m = m
+      command_mid (b ∷ c) z v w m = command_mid c (bundle_done sv kp (suc (length h)) b z) (bundle_played sv b v) (bundle_room laws b v w) (bundle_mid b z v w m)
 
       mid_shows : (c : Command O) (s : kp.Kept) → Mid (replay sv (c ∷ h)).place s → Shows s (c ∷ h)
       mid_shows c s m k = elim (m k) [ inl e ↦ inl e | inr y ↦ inr (y.0, aged y.1) ]
@@ -211,7 +240,7 @@ module _ {O R : Type 0} (sv : Service O R) (kp : Keeper sv) where
     unfolding replay
     done_shows h k z e f s version v =
         let m : Mirrors h (command_done sv kp version k z) (replay sv (k ∷ h)) =
-        subst (λ (n : ℕ). Mirrors h (command_done sv kp n k z) (replay sv (k ∷ h))) (sym v) (command_mid h k z (replay sv h) (e, f, λ n. elim (s n) [ inl g ↦ inl g | inr y ↦ inr (y.0, inl (refl, y.1)) ])) in
+        subst (λ (n : ℕ). Mirrors h (command_done sv kp n k z) (replay sv (k ∷ h))) (sym v) (command_mid h k z (replay sv h) (replay_room laws h) (e, f, λ n. elim (s n) [ inl g ↦ inl g | inr y ↦ inr (y.0, inl (refl, y.1)) ])) in
         (m.0, m.1, mid_shows h k _ m.2)
 
   -- what a portion says, a part says

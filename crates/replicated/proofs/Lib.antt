@@ -17,9 +17,13 @@ pub mod Events
 pub mod Agreement
 pub mod Like
 pub mod Sent
+pub mod StoredFirst
 pub mod Fits
 pub mod Numbered
 pub mod Busy
+pub mod Cells
+pub mod Alive
+pub mod CaughtUp
 pub mod Runs
 pub mod Turns
 pub mod Posted

@@ -1,5 +1,5 @@
 -- Lists: taking a member out, members that differ, and the calls of a bundle among all calls.
-use Rattle.std.proofs.Common.{◌≡◌, ℕ, cond, ◌&&◌, eqb, ◌≢◌, List, [], ◌∷◌, ◌++◌, sym, refl, ap, ◌∙◌, subst, inl, inr, arith, eqb-true}
+use Rattle.std.proofs.Common.{◌≡◌, ℕ, cond, ◌&&◌, eqb, ◌≢◌, ◌⊎◌, List, [], ◌∷◌, ◌++◌, sym, refl, ap, ◌∙◌, subst, inl, inr, arith, eqb-true}
 use mathlib.Core.Path.{fun_ext}
 use mathlib.Core.List.Memᴰ
 use mathlib.Core.List.{Memᴰ}
@@ -43,6 +43,15 @@ apart_unique f (z ∷ l) a x y m n e = elim (Memᴰ.cases_cons m) [
   | inr m' ↦ elim (Memᴰ.cases_cons n) [ inl q ↦ absurd (a.0 x m' (e ∙ ap f q)) | inr n' ↦ apart_unique f l a.1 x y m' n' e ]
 ]
 
+-- one more at the end
+pub in_last : {A : Type 0} {x z : A} (l : List A) → Memᴰ x (l ++ z ∷ []) → Memᴰ x l ⊎ (x ≡ z)
+in_last [] m = elim (Memᴰ.cases_cons m) [ inl e ↦ inr e | inr n ↦ inl n ]
+in_last (y ∷ l) m = elim (Memᴰ.cases_cons m) [ inl e ↦ inl (Memᴰ.head e) | inr n ↦ elim (in_last l n) [ inl k ↦ inl (Memᴰ.tail k) | inr e ↦ inr e ] ]
+
+apart_last : {A : Type 0} (f : A → ℕ) (l : List A) (z : A) → Apart f l → ((y : A) → Memᴰ y l → f y ≢ f z) → Apart f (l ++ z ∷ [])
+apart_last f [] z a n = (λ y m. absurd (Memᴰ.not-nil m), tt)
+apart_last f (x ∷ l) z a n = (λ y m. elim (in_last l m) [ inl k ↦ a.0 y k | inr e ↦ λ g. n x (Memᴰ.head refl) (sym g ∙ ap f e) ], apart_last f l z a.1 (λ y m. n y (Memᴰ.tail m)))
+
 -- a call that was made, and the bundle that it belongs to
 pub record Homed (O : Type 0) : Type 0 where
   pub house : ℕ
@@ -56,7 +65,7 @@ item a = record { id = a.id; call = a.call }
 
 pub slot : {O : Type 0} → List (Homed O) → (h i c : ℕ) → List (Item O)
 slot [] h i c = []
-slot (a ∷ l) h i c = cond (eqb a.house h && (eqb a.incarnation i && eqb a.counter c)) (item a ∷ slot l h i c) (slot l h i c)
+slot (a ∷ l) h i c = cond (eqb a.house h && (eqb a.incarnation i && eqb a.counter c)) (slot l h i c ++ item a ∷ []) (slot l h i c)
 
 pub record Of {O : Type 0} (l : List (Homed O)) (h i c : ℕ) (x : Item O) : Type 0 where
   pub a : Homed O
@@ -74,19 +83,19 @@ unfolding slot
 slot_of [] h i c x m = absurd (Memᴰ.not-nil m)
 slot_of {O} (z ∷ l) h i c x m = go (λ m'. of_more z (slot_of l h i c x m')) m
   where
-    go : (Memᴰ x (slot l h i c) → Of (z ∷ l) h i c x) → Memᴰ x (cond (eqb z.house h && (eqb z.incarnation i && eqb z.counter c)) (item z ∷ slot l h i c) (slot l h i c)) → Of (z ∷ l) h i c x
+    go : (Memᴰ x (slot l h i c) → Of (z ∷ l) h i c x) → Memᴰ x (cond (eqb z.house h && (eqb z.incarnation i && eqb z.counter c)) (slot l h i c ++ item z ∷ []) (slot l h i c)) → Of (z ∷ l) h i c x
     go below =
         by_three (λ k. Memᴰ x k → Of (z ∷ l) h i c x) (eqb z.house h) (eqb z.incarnation i) (eqb z.counter c)
-        (λ p q r m'. elim (Memᴰ.cases_cons m') [
-          | inl e ↦ record { a = z; inside = Memᴰ.head refl; house_is = eqb-true _ _ p; inc_is = eqb-true _ _ q; ctr_is = eqb-true _ _ r; is = e }
-          | inr n ↦ below n
+        (λ p q r m'. elim (in_last (slot l h i c) m') [
+          | inr e ↦ record { a = z; inside = Memᴰ.head refl; house_is = eqb-true _ _ p; inc_is = eqb-true _ _ q; ctr_is = eqb-true _ _ r; is = e }
+          | inl n ↦ below n
         ]) below
 
 pub slot_skip : {O : Type 0} (a : Homed O) (l : List (Homed O)) (h i c : ℕ) → (a.house ≡ h → a.incarnation ≡ i → a.counter ≡ c → ⊥) → slot (a ∷ l) h i c ≡ slot l h i c
 unfolding slot
 slot_skip a l h i c n = by_three (λ k. k ≡ slot l h i c) (eqb a.house h) (eqb a.incarnation i) (eqb a.counter c) (λ p q r. absurd (n (eqb-true _ _ p) (eqb-true _ _ q) (eqb-true _ _ r))) refl
 
-pub slot_take : {O : Type 0} (a : Homed O) (l : List (Homed O)) (h i c : ℕ) → a.house ≡ h → a.incarnation ≡ i → a.counter ≡ c → slot (a ∷ l) h i c ≡ item a ∷ slot l h i c
+pub slot_take : {O : Type 0} (a : Homed O) (l : List (Homed O)) (h i c : ℕ) → a.house ≡ h → a.incarnation ≡ i → a.counter ≡ c → slot (a ∷ l) h i c ≡ slot l h i c ++ item a ∷ []
 unfolding slot
 slot_take a l h i c p q r = grind (arith, nat_tests)
 
@@ -100,7 +109,7 @@ unfolding slot
 slot_apart [] h i c a = tt
 slot_apart {O} (z ∷ l) h i c a =
     by_three (λ k. Apart (λ (x : Item O). x.id) k) (eqb z.house h) (eqb z.incarnation i) (eqb z.counter c)
-    (λ p q r. (λ y m e. let f = slot_of l h i c y m in a.0 f.a f.inside (sym (ap (λ (t : Item O). t.id) f.is) ∙ e), slot_apart l h i c a.1)) (slot_apart l h i c a.1)
+    (λ p q r. apart_last (λ (x : Item O). x.id) (slot l h i c) (item z) (slot_apart l h i c a.1) (λ y m e. let f = slot_of l h i c y m in a.0 f.a f.inside (sym (ap (λ (t : Item O). t.id) f.is) ∙ e))) (slot_apart l h i c a.1)
 
 -- one house's new state
 pub put_here : {A : Type 0} (i : ℕ) (s : A) (hs : ℕ → A) → put i s hs i ≡ s

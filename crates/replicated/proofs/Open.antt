@@ -215,8 +215,8 @@ module _ {O R : Type 0} (sv : Service O R) (kp : Keeper sv) where
       where
         new : (a : Asking) → Memᴰ a (record { house = i; id = k } ∷ pend) → a.house ≡ i → Safe a.id (queued k o (begins sv kp m d).turn)
         new a n f = inl (elim (Memᴰ.cases_cons n) [
-          | inl z ↦ inr (_, Memᴰ.head refl, ap (λ (y : Asking). y.id) (sym z))
-          | inr z ↦ elim (here_waits hs pend i m d e op a z f) [ inl y ↦ inl y | inr y ↦ inr (y.0, Memᴰ.tail y.1, y.2) ]
+          | inl z ↦ inr (_, Memᴰ.append_right m.waiting (Memᴰ.head refl), ap (λ (y : Asking). y.id) (sym z))
+          | inr z ↦ elim (here_waits hs pend i m d e op a z f) [ inl y ↦ inl y | inr y ↦ inr (y.0, Memᴰ.append_left _ y.1, y.2) ]
         ])
 
         full : (a : Asking) → Memᴰ a (settled {M = Messages sv kp} i (Tell k sv.busy ∷ []) (record { house = i; id = k } ∷ pend)) → AtOpen a.id (put i (on m d) hs a.house)

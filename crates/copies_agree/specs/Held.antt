@@ -1,0 +1,30 @@
+-- Statements that lie above Type 0, which a contract can't hold, as types that can: that there is this proof of one.
+use Rattle.copies.specs.Service.{Keeps}
+use Rattle.copies.specs.Cells.{cells, cell_keeper}
+use Rattle.copies.specs.Promise.{Agreement, CaughtUp, StoredFirst, Replicated, BusyOnly}
+use Rattle.composed.specs.Held.{Shown}
+use Rattle.replicated.proofs.Agreement.{agreement}
+use Rattle.replicated.proofs.Busy.{busy}
+use Rattle.replicated.proofs.CaughtUp.{caught_up}
+use Rattle.replicated.proofs.Cells.{cells_keeps}
+use Rattle.replicated.proofs.Events.{as_one}
+use Rattle.replicated.proofs.StoredFirst.{stored_first}
+
+abbrev pub AgreementHeld : Type 0
+AgreementHeld = Shown {A = Agreement} agreement
+
+abbrev pub CaughtUpHeld : Type 0
+CaughtUpHeld = Shown {A = CaughtUp} caught_up
+
+abbrev pub AsOneHeld : Type 0
+AsOneHeld = Shown {A = Replicated} as_one
+
+abbrev pub BusyHeld : Type 0
+BusyHeld = Shown {A = BusyOnly} busy
+
+abbrev pub StoredFirstHeld : Type 0
+StoredFirstHeld = Shown {A = StoredFirst} stored_first
+
+-- the laws of a keeper can be met
+abbrev pub CellsKept : Type 0
+CellsKept = Shown {A = Keeps cells cell_keeper} cells_keeps
