@@ -4,7 +4,7 @@
 
 ghost use Rattle.copies.specs.Service.{Lawful};
 ghost use Rattle.copies.specs.Cells.{cells, Alive, CatchesUp};
-ghost use Rattle.copies_agree.specs.Held.{AgreementHeld, CaughtUpHeld, AsOneHeld, BusyHeld, StoredFirstHeld, CellsKept};
+ghost use Rattle.copies_agree.specs.Held.{AgreementHeld, CaughtUpHeld, AsOneHeld, BusyHeld, AnswersHeld, StoredFirstHeld, CellsKept};
 
 // There is one sequence of commands, and each copy has, whenever it is looked at, the state after the first of them; one that catches up
 // has each block as it was after so many, from its base to its top.
@@ -21,6 +21,11 @@ pub fn houses_are_as_one()
 // Busy is said only at once, and only where eight calls wait, whatever packet comes.
 pub fn busy_at_nine()
     ensures { BusyHeld }
+{}
+
+// With any one house out, all calls that wait at the others can be answered, in a number of steps that is told.
+pub fn houses_answer()
+    ensures { AnswersHeld }
 {}
 
 // What a copy says of itself it has stored before.
