@@ -1,10 +1,10 @@
 -- A device with room for the journal is opened by its slots. One that is too small is refused, and nothing is asked of it.
-use Rattle.std.proofs.Common.{◌≡◌, ℕ, ◌<◌, ◌≤◌, Bool, true, false, cond, leb, List, ◌∷◌, sym, refl, ap, subst, arith, le-leb, Ok, Err}
+use Rattle.std.proofs.Common.{◌≡◌, ℕ, ◌<◌, ◌≤◌, List, ◌∷◌, sym, refl, ap, subst, le-leb, Err}
 use Rattle.std.proofs.lemmas.Bool.{lt-leb}
 use Rattle.disks.specs.Device.{Device, zeros, Io, answer, run, Ran, Fair, Event, called, World, off, on, Trace, begin, opened, opening_cut, answered, call_cut, between_cut, Allowed, at_start, was_lost, came_between, came_opening}
 use Rattle.journal.specs.Format.{guarded, foreign}
 use Rattle.journal.specs.Programs.{slots_io, open_io, Opened}
-use Rattle.recovery.specs.Machines.{Call, Get, Put, Reply, No, call_io, journal, Array, later, Answers, too_small, falls, array}
+use Rattle.recovery.specs.Machines.{Call, Get, Put, Reply, No, call_io, journal, Array, later, too_small, falls, array}
 
 pub open_large : (size : ℕ) → guarded ≤ size → open_io size ≡ slots_io size
 unfolding open_io
