@@ -1,11 +1,12 @@
 -- The plain array that the journal is compared with.
 -- Assumes nothing.
 use Rattle.std.specs.Prelude.{◌≡◌, ℕ, ◌+◌, ◌*◌, ◌%◌, cond, List, [], ◌∷◌, ◌++◌, ◌==◌}
+use Rattle.journal.specs.Format.{guarded}
 use Rattle.journal.specs.declared.state.Write.{Write}
 
 -- the sector of the device that the i-th of the array stands at
 abbrev pub placed : ℕ → ℕ
-placed i = 960 + 37 * (i % 48)
+placed i = guarded + 37 * (i % 48)
 
 -- what a sector holds after these writes, in order
 abbrev pub after_writes : List Write → ℕ → List ℕ → List ℕ

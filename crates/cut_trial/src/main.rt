@@ -9,6 +9,7 @@ use device::disk::Failed;
 use device::get::get;
 use device::open::open;
 use device::put::put;
+use journal::GUARDED;
 use journal::state::{Journal, Write};
 use memory_disk::MemoryDisk;
 use memory_disk::random::Random;
@@ -16,7 +17,10 @@ use model::{Model, PLAYED, transaction};
 use std::alloc::Global;
 use std::{env, fmt};
 
-const SIZE: u64 = 4096;
+const SIZE: u64 = 8192;
+
+// Opening is cut among its last reads of the journal or behind them, where it writes; all before is reads alone.
+const LAST_READS: u64 = 960;
 
 const USAGE: &str = "usage: cut_trial SEED CUTS";
 
@@ -86,7 +90,7 @@ impl Trial {
     fn opened(&mut self) -> anyhow::Result<Journal> {
         for _ in 0..1000u64 {
             if self.random.below(3) == 0 {
-                let n = self.random.below(2400);
+                let n = GUARDED - LAST_READS + self.random.below(2400);
                 self.disk.fail_after(n);
             }
             match open(&mut self.disk, SIZE) {

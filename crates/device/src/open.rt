@@ -1,14 +1,14 @@
 // Opening: both slots of the journal are read, and what they hold is done again.
 ghost use Rattle.device.specs.Does.{Act, Does};
 ghost use Rattle.device.specs.Told.{told};
-ghost use Rattle.journal.specs.Programs.{scan_io, open_io};
+ghost use Rattle.journal.specs.Programs.{scan_io, slots_io, open_io};
 
 use crate::disk::{Disk, Failed, Fault};
 use crate::recover::recover;
 use journal::part::Foreign;
 use journal::scan::Scan;
 use journal::state::{Journal, Slot};
-use journal::{Place, SLOT_SECTORS};
+use journal::{GUARDED, Place, SLOT_SECTORS};
 use octets::BLANK_SECTOR;
 
 // Reads a slot, first sector to last.
@@ -28,12 +28,23 @@ fn scan<D: Disk>(disk: &mut D, size: u64, slot: Slot) -> Result<Result<Scan, For
     Ok(found)
 }
 
-// The journal of a disk with so many sectors, once everything that was put stands in its place.
-#[tactic(auto, using(crate::proofs::Steps::does, crate::proofs::Tells::tells), unfolding(journal::specs::Programs::open_io))]
-pub fn open<D: Disk>(disk: &mut D, size: u64) -> Result<Journal, Failed<Foreign>>
-    ensures { Does D.did (open_io size) disk.old (told result) disk.new }
+// Both slots are read, and what they hold is done again.
+#[tactic(auto, using(crate::proofs::Steps::does, crate::proofs::Tells::tells))]
+fn open_slots<D: Disk>(disk: &mut D, size: u64) -> Result<Journal, Failed<Foreign>>
+    ensures { Does D.did (slots_io size) disk.old (told result) disk.new }
 {
     let a = scan(disk, size, Slot::First)?;
     let b = scan(disk, size, Slot::Second)?;
     recover(disk, size, a, b)
+}
+
+// The journal of a disk with so many sectors, once everything that was put stands in its place.
+#[tactic(auto, using(crate::proofs::Steps::does), unfolding(journal::specs::Programs::open_io))]
+pub fn open<D: Disk>(disk: &mut D, size: u64) -> Result<Journal, Failed<Foreign>>
+    ensures { Does D.did (open_io size) disk.old (told result) disk.new }
+{
+    if size < GUARDED {
+        return Err(Failed::Refused(Foreign));
+    }
+    open_slots(disk, size)
 }

@@ -1,7 +1,7 @@
 // Putting a transaction: its record into a slot of the journal, a sync, then its sectors in place.
 ghost use Rattle.std.specs.Prelude.{◌≡◌, ◌+◌, ◌*◌, ◌^◌, ◌<◌, ◌≤◌, true, length, is_err};
 ghost use Rattle.device.specs.Does.{Act, Does, write_io};
-ghost use Rattle.journal.specs.Format.{part_bytes};
+ghost use Rattle.journal.specs.Format.{most_writes, part_bytes};
 ghost use Rattle.device.specs.Told.{told, leaving};
 ghost use Rattle.journal.specs.Programs.{write_all_io, record_of, transact_io, put_io};
 
@@ -69,7 +69,7 @@ fn write_in_place<D: Disk>(disk: &mut D, writes: &[Write]) -> Result<(), Fault>
 // The record, then the sync: from there on the record is whole, and opening does it again. Only then the sectors themselves.
 #[tactic(auto, using(crate::proofs::Steps::does), unfolding(journal::specs::Programs::transact_io))]
 fn transact<D: Disk>(journal: &Journal, disk: &mut D, writes: &[Write]) -> Result<(), Fault>
-    requires { length writes.now ≤ 240 }
+    requires { length writes.now ≤ most_writes }
     ensures { Does D.did (transact_io journal.now writes.now) disk.old result disk.new }
 {
     write_record(disk, journal.slot.first_sector(), journal.next, writes)?;

@@ -14,17 +14,17 @@ use std::alloc::{AllocError, Global};
 use std::env;
 use std::fs::{File, OpenOptions};
 
-const SIZE: u64 = 4096;
+const SIZE: u64 = 8192;
 
 const USAGE: &str =
-    "usage: device_bench SECTORS TIMES, with 1 to 240 sectors in a transaction, or 0 for a bare write and sync";
+    "usage: device_bench SECTORS TIMES, with 1 to 1600 sectors in a transaction, or 0 for a bare write and sync";
 
 const FAILED: &str = "the device failed";
 
 // How many sectors and how often, by the command line.
-fn asked(rt: &HostRuntime) -> anyhow::Result<(u8, u64)> {
+fn asked(rt: &HostRuntime) -> anyhow::Result<(u16, u64)> {
     let mut words = env::args(rt)?.skip(1);
-    let (sectors, times): (u8, u64) = two(&mut words).context(USAGE)?;
+    let (sectors, times): (u16, u64) = two(&mut words).context(USAGE)?;
     if usize::from(sectors) > MOST_WRITES {
         return Err(anyhow!("{USAGE}"));
     }
@@ -55,7 +55,7 @@ fn failed<E: Drop>(_: E) -> anyhow::Error {
 }
 
 // Blank sectors, the first that the journal guards.
-fn blank_writes(heap: Global, sectors: u8) -> Result<Vec<Write>, AllocError> {
+fn blank_writes(heap: Global, sectors: u16) -> Result<Vec<Write>, AllocError> {
     (0..u64::from(sectors))
         .map(|i| Write {
             target: Place(GUARDED + i),

@@ -9,13 +9,17 @@ use Rattle.journal.specs.declared.part.Foreign.{Foreign}
 abbrev pub mark : ℕ
 mark = 7739838812258722163
 
--- how many sectors a slot has
-abbrev pub slot_sectors : ℕ
-slot_sectors = 480
+-- the most writes of a transaction
+abbrev pub most_writes : ℕ
+most_writes = 1600
 
--- the first sector that the journal guards
+-- how many sectors a slot has: two for each write
+abbrev pub slot_sectors : ℕ
+slot_sectors = 3200
+
+-- the first sector that the journal guards: behind two slots
 abbrev pub guarded : ℕ
-guarded = 960
+guarded = 6400
 
 -- numbers of records are below this
 abbrev pub numbers_end : ℕ

@@ -3,7 +3,7 @@
 use Rattle.std.specs.Prelude.{ℕ, zero, suc, ◌+◌, ◌*◌, ◌/◌, ◌%◌, Bool, true, cond, not, ◌&&◌, List, [], ◌∷◌, ◌++◌, length, take, drop, Ok, Err, Result, ◌==◌, nat_le, nat_lt, slice_index_or}
 use Rattle.std.specs.List.{list_any, list_all}
 use Rattle.disks.specs.Device.{Io, answer, read, write, sync, then'}
-use Rattle.journal.specs.Format.{slot_sectors, guarded, numbers_end, part_bytes, part_of, half_of, foreign}
+use Rattle.journal.specs.Format.{most_writes, slot_sectors, guarded, numbers_end, part_bytes, part_of, half_of, foreign}
 use Rattle.journal.specs.Scans.{Scanned, scan_start, scan_on, number_or_none, redo_count, higher}
 use Rattle.journal.specs.declared.Place.{Place}
 use Rattle.journal.specs.declared.scan.Scan.{Scan}
@@ -29,7 +29,7 @@ Got = Result (List ℕ) Refused
 
 abbrev pub base : Slot → ℕ
 base First = 0
-base Second = 480
+base Second = slot_sectors
 
 abbrev pub other : Slot → Slot
 other First = Second
@@ -83,7 +83,7 @@ unfoldable pub all_in_area : ℕ → List Write → Bool
 all_in_area size ws = list_all (λ w. in_area size w.target.0) ws
 
 abbrev pub allowed : ℕ → List Write → Bool
-allowed size ws = (nat_le 1 (length ws) && nat_le (length ws) 240) && all_in_area size ws && apart ws
+allowed size ws = (nat_le 1 (length ws) && nat_le (length ws) most_writes) && all_in_area size ws && apart ws
 
 -- PUT: the record into its slot, a sync, the sectors in place
 abbrev pub after_put : Journal → Journal
@@ -105,7 +105,7 @@ put_io j ws =
 unfoldable pub get_io : Journal → Place → Io Got
 get_io j p = cond (in_area j.size p.0) (read p.0 (λ b. answer (Ok b))) (answer (Err OutOfRange))
 
--- OPEN: both slots are read; the complete records are done again, the older first; a sync
+-- OPEN: both slots are read; the complete records are done again, the older first; a sync. A device too small for the journal isn't ours.
 unfoldable pub scan_from : (size at i k : ℕ) → Scanned → Io Scanned
 scan_from size at i zero s = answer s
 scan_from size at i (suc k) s = read (at + i) (λ b. scan_from size at (i + 1) k (scan_on size i b s))
@@ -137,5 +137,8 @@ recover_io size (Ok a) (Err e) = answer (Err foreign)
 recover_io size (Ok a) (Ok b) =
     cond (nat_lt (number_or_none b) (number_or_none a)) (then' (redo_io Second b a) (λ _. answer (Ok (ready size Second b a)))) (then' (redo_io First a b) (λ _. answer (Ok (ready size First a b))))
 
+abbrev pub slots_io : ℕ → Io Opened
+slots_io size = then' (scan_io size First) (λ a. then' (scan_io size Second) (λ b. recover_io size a b))
+
 unfoldable pub open_io : ℕ → Io Opened
-open_io size = then' (scan_io size First) (λ a. then' (scan_io size Second) (λ b. recover_io size a b))
+open_io size = cond (nat_le guarded size) (slots_io size) (answer (Err foreign))

@@ -2,6 +2,7 @@
 use Rattle.std.proofs.Common.{◌≡◌, ℕ, ◌+◌, ◌<◌, ◌≤◌, Bool, true, false, cond, ◌&&◌, T, ltb, leb, ◌⊎◌, List, length, refl, ap, ◌∙◌, subst, inl, inr, arith, ltb-true, leb-true, Ok, Err}
 use Rattle.disks.specs.Device.{Device, Io, answer, read, sync, run, Ran, Upto, here, reads, syncs, synced, then', AfterCut}
 use Rattle.compose.proofs.Compose.{run_then, upto_then, upto_map}
+use Rattle.journal.specs.Format.{most_writes}
 use Rattle.journal.specs.Programs.{base, in_area, all_in_area, apart, allowed, write_all_io, record_of, transact_io, put_io, Put', get_io, after_put}
 use Rattle.recovery.specs.Machines.{last, whole_sectors}
 use Rattle.journal.specs.declared.Place.{Place}
@@ -16,15 +17,15 @@ use Rattle.recovery.proofs.Tests.{is_so}
 
 pub record Fine (size : ℕ) (ws : List Write) : Type 0 where
   pub one : 1 ≤ length ws
-  pub few : length ws ≤ 240
+  pub few : length ws ≤ most_writes
   pub area : T (all_in_area size ws)
 
 pub fine : (size : ℕ) (ws : List Write) → T (allowed size ws) → Fine size ws
 fine size ws t =
-    let a = both ((leb 1 (length ws) && leb (length ws) 240) && all_in_area size ws) (apart ws) t in
-    let b = both (leb 1 (length ws) && leb (length ws) 240) (all_in_area size ws) a.0 in
-    let c = both (leb 1 (length ws)) (leb (length ws) 240) b.0 in
-    record { one = leb-true 1 (length ws) (is_so (leb 1 (length ws)) c.0); few = leb-true (length ws) 240 (is_so (leb (length ws) 240) c.1); area = b.1 }
+    let a = both ((leb 1 (length ws) && leb (length ws) most_writes) && all_in_area size ws) (apart ws) t in
+    let b = both (leb 1 (length ws) && leb (length ws) most_writes) (all_in_area size ws) a.0 in
+    let c = both (leb 1 (length ws)) (leb (length ws) most_writes) b.0 in
+    record { one = leb-true 1 (length ws) (is_so (leb 1 (length ws)) c.0); few = leb-true (length ws) most_writes (is_so (leb (length ws) most_writes) c.1); area = b.1 }
 
 module _ (size n : ℕ) (array : ℕ → List ℕ) (j : Journal) (d : Device) (on : On size n array j d) where
   -- GET

@@ -1,11 +1,11 @@
 -- What transactions and opening cost, and what opening makes of any device.
-use Rattle.std.proofs.Common.{◌≡◌, ℕ, zero, suc, ◌+◌, ◌*◌, ◌<◌, ◌≤◌, Bool, true, false, cond, T, eqb, ltb, List, [], ◌∷◌, ◌++◌, length, sym, refl, ap, ◌∙◌, subst, arith, lt-ltb, eqb-true, Ok, Err}
+use Rattle.std.proofs.Common.{◌≡◌, ℕ, zero, suc, ◌+◌, ◌*◌, ◌<◌, ◌≤◌, Bool, true, false, cond, T, eqb, ltb, leb, List, [], ◌∷◌, ◌++◌, length, sym, refl, ap, ◌∙◌, subst, arith, lt-ltb, ltb-true, leb-true, eqb-true, Ok, Err}
 use borrow.Author.Tests.{eqb-false}
-use Rattle.disks.specs.Device.{Device, Io, answer, read, write, sync, run, Ran, shown, written, synced, then'}
+use Rattle.disks.specs.Device.{Device, Io, answer, read, write, sync, run, Ran, Upto, shown, written, synced, then'}
 use Rattle.compose.proofs.Compose.{run_then}
-use Rattle.journal.specs.Format.{found, part_of, half_of, foreign}
+use Rattle.journal.specs.Format.{slot_sectors, guarded, found, part_of, half_of, foreign}
 use Rattle.journal.specs.Scans.{Scanned, scan_start, scan_on, scan_found, scanned, number_or_none, redo_count}
-use Rattle.journal.specs.Programs.{base, other, allowed, write_all_io, record_from, record_of, transact_io, put_io, scan_from, scan_io, replay_from, redo_io, recover_io, open_io, ready, Opened}
+use Rattle.journal.specs.Programs.{base, other, in_area, allowed, write_all_io, record_from, record_of, transact_io, put_io, scan_from, scan_io, replay_from, redo_io, recover_io, slots_io, open_io, ready, Opened}
 use Rattle.recovery.specs.Promises.{count, PutCosts, OpenCosts, OpensAgain, ForeignRefused, OursOpened}
 use Rattle.journal.specs.declared.scan.Scan.{Scan}
 use Rattle.journal.specs.declared.state.Write.{Write}
@@ -16,6 +16,8 @@ use Rattle.recovery.proofs.Scanning.{gathered, scanned_is}
 use Rattle.recovery.proofs.Redoing.{slot_of, slot_run, redo_few, settle_io}
 use Rattle.recovery.proofs.Opening.{opens, opens-cut}
 use Rattle.recovery.proofs.Keeping.{held}
+use Rattle.recovery.proofs.Room.{open_large}
+use Rattle.octets.proofs.Numbers.{both}
 use Rattle.recovery.proofs.Tests.{is_so}
 
 pub count_then : {A B : Type 0} (r w s : ℕ) (p : Io A) (f : A → Io B) (d : Device) → count r w s (then' p f) d ≡ count r w s p d + count r w s (f (run p d).value) (run p d).device
@@ -61,7 +63,7 @@ count_replay at i zero d = refl
 count_replay at i (suc k) d =
     let h = count_replay at (i + 1) k (written (part_of (shown d (at + 2 * i))).target.0 (half_of (shown d (at + 2 * i)) ++ half_of (shown d (at + (2 * i + 1)))) d) in omega arith
 
-count_redo : (o : Slot) (a b : Scan) (d : Device) → count 1 1 1 (redo_io o a b) d ≤ 1441
+count_redo : (o : Slot) (a b : Scan) (d : Device) → count 1 1 1 (redo_io o a b) d ≤ 9601
 unfolding redo_io count
 count_redo o a b d =
     let first = replay_from (base o) 0 (redo_count a) in
@@ -72,38 +74,49 @@ count_redo o a b d =
     let q = count_replay (base (other o)) 0 (redo_count b) (run first d).device in
     omega (arith, redo_few a, redo_few b)
 
-count_recover : (size : ℕ) (a b : Scanned) (d : Device) → count 1 1 1 (recover_io size a b) d ≤ 1441
+count_recover : (size : ℕ) (a b : Scanned) (d : Device) → count 1 1 1 (recover_io size a b) d ≤ 9601
 unfolding recover_io count
 count_recover size (Err e) b d = omega arith
 count_recover size (Ok a) (Err e) d = omega arith
 count_recover size (Ok a) (Ok b) d = go (ltb (number_or_none b) (number_or_none a))
   where
-    one : (o : Slot) (x y : Scan) → count {A = Opened} 1 1 1 (then' (redo_io o x y) (λ _. answer (Ok (ready size o x y)))) d ≤ 1441
+    one : (o : Slot) (x y : Scan) → count {A = Opened} 1 1 1 (then' (redo_io o x y) (λ _. answer (Ok (ready size o x y)))) d ≤ 9601
     one o x y = let c = count_then {B = Opened} 1 1 1 (redo_io o x y) (λ _. answer (Ok (ready size o x y))) d in omega (arith, count_redo o x y d)
 
-    go : (v : Bool) → count {A = Opened} 1 1 1 (cond v (then' (redo_io Second b a) (λ _. answer (Ok (ready size Second b a)))) (then' (redo_io First a b) (λ _. answer (Ok (ready size First a b))))) d ≤ 1441
+    go : (v : Bool) → count {A = Opened} 1 1 1 (cond v (then' (redo_io Second b a) (λ _. answer (Ok (ready size Second b a)))) (then' (redo_io First a b) (λ _. answer (Ok (ready size First a b))))) d ≤ 9601
     go true = one Second b a
     go false = one First a b
 
-pub open_costs : OpenCosts
-unfolding open_io
-open_costs size d =
+count_slots : (size : ℕ) (d : Device) → count 1 1 1 (slots_io size) d ≤ 16001
+count_slots size d =
     let x = count_then 1 1 1 (scan_io size First) (λ a. then' (scan_io size Second) (λ b. recover_io size a b)) d in
     let a = (run (scan_io size First) d).value in
     let e = (run (scan_io size First) d).device in
     let y = count_then 1 1 1 (scan_io size Second) (λ b. recover_io size a b) e in
-    let p = count-scan size (base First) 0 480 (Ok scan_start) d in
-    let q = count-scan size (base Second) 0 480 (Ok scan_start) e in
+    let p = count-scan size (base First) 0 slot_sectors (Ok scan_start) d in
+    let q = count-scan size (base Second) 0 slot_sectors (Ok scan_start) e in
     let z = count_recover size a (run (scan_io size Second) e).value (run (scan_io size Second) e).device in
     omega arith
+
+pub open_costs : OpenCosts
+unfolding open_io count
+open_costs size d = go (leb guarded size)
+  where
+    go : (b : Bool) → count {A = Opened} 1 1 1 (cond b (slots_io size) (answer (Err foreign))) d ≤ 16001
+    go true = count_slots size d
+    go false = omega arith
 
 -- AGAIN
 pub opens-again : OpensAgain
 opens-again size lo hi es d tr e f up cut s t =
-    let (a, al, o) = held size hi tr in
+    let room = in_room s t in
+    let (a, al, o) = held size hi room tr in
     let (j, q, on') = opens size a.steps a.sector d o in
-    let (j', q', on'') = opens size a.steps a.sector f (opens-cut size a.steps a.sector d o a.steps e f (omega arith) up cut) in
-    on''.shows s t ∙ sym (on'.shows s t)
+    let (j', q', on'') = opens size a.steps a.sector f (opens-cut size a.steps a.sector d o a.steps e f (omega arith) (subst (λ (p : Io Opened). Upto p d e) (open_large size room) up) cut) in
+    subst (λ (p : Io Opened). shown (run p f).device s ≡ shown (run p d).device s) (sym (open_large size room)) (on''.shows s t ∙ sym (on'.shows s t))
+  where
+    in_room : (s : ℕ) → T (in_area size s) → guarded ≤ size
+    in_room s t = let x = both (leb guarded s) (ltb s size) t in omega (arith, leb-true guarded s (is_so (leb guarded s) x.0), ltb-true s size (is_so (ltb s size) x.1))
 
 -- FOREIGN: once seen, it is remembered
 is_foreign : (size : ℕ) (g : ℕ → List ℕ) (i k : ℕ) → i < k → found size i (g i) ≡ Err foreign → scanned size g k ≡ Err foreign
@@ -121,17 +134,17 @@ is_foreign size g i (suc k) l e = go (eqb i k) refl (λ m. is_foreign size g i k
 
 module _ (size : ℕ) (d : Device) where
   abbrev scan : Slot → Scanned
-  scan slot = scanned size (slot_of d slot) 480
+  scan slot = scanned size (slot_of d slot) slot_sectors
 
-  recover_run : run (open_io size) d ≡ run (recover_io size (scan First) (scan Second)) d
-  unfolding open_io run
+  recover_run : run (slots_io size) d ≡ run (recover_io size (scan First) (scan Second)) d
+  unfolding run
   recover_run =
       run_then (scan_io size First) (λ a. then' (scan_io size Second) (λ b. recover_io size a b)) d
       ∙ ap (λ (r : Ran Scanned). run (then' (scan_io size Second) (λ b. recover_io size r.value b)) r.device) (slot_run size d First)
       ∙ run_then (scan_io size Second) (λ b. recover_io size (scan First) b) d
       ∙ ap (λ (r : Ran Scanned). run (recover_io size (scan First) r.value) r.device) (slot_run size d Second)
 
-  refused : (slot : Slot) → scan slot ≡ Err foreign → run (open_io size) d ≡ record { value = Err foreign; device = d }
+  refused : (slot : Slot) → scan slot ≡ Err foreign → run (slots_io size) d ≡ record { value = Err foreign; device = d }
   unfolding recover_io run
   refused First e = recover_run ∙ ap (λ (r : Scanned). run (recover_io size r (scan Second)) d) e
   refused Second e = recover_run ∙ ap (λ (r : Scanned). run (recover_io size (scan First) r) d) e ∙ go (scan First)
@@ -140,7 +153,7 @@ module _ (size : ℕ) (d : Device) where
       go (Ok a) = refl
       go (Err f) = refl
 
-  accepted : (a b : Scan) → scan First ≡ Ok a → scan Second ≡ Ok b → (j : Journal) × ((run (open_io size) d).value ≡ Ok j)
+  accepted : (a b : Scan) → scan First ≡ Ok a → scan Second ≡ Ok b → (j : Journal) × ((run (slots_io size) d).value ≡ Ok j)
   unfolding recover_io run
   accepted a b p q =
       let x = go (ltb (number_or_none b) (number_or_none a)) in
@@ -151,8 +164,14 @@ module _ (size : ℕ) (d : Device) where
       go false = (ready size First a b, ap (λ (r : Ran Opened). r.value) (run_then (redo_io First a b) (λ _. answer (Ok (ready size First a b))) d))
 
 pub foreign_refused : ForeignRefused
-foreign_refused size d slot i l e = refused size d slot (is_foreign size (slot_of d slot) i 480 l e)
+unfolding open_io run
+foreign_refused size d slot i l e = go (leb guarded size)
+  where
+    go : (b : Bool) → run {A = Opened} (cond b (slots_io size) (answer (Err foreign))) d ≡ record { value = Err foreign; device = d }
+    go true = refused size d slot (is_foreign size (slot_of d slot) i slot_sectors l e)
+    go false = refl
 
 pub ours-opened : OursOpened
-ours-opened size d no' =
-    accepted size d (gathered size (slot_of d First) 480) (gathered size (slot_of d Second) 480) (scanned_is size (slot_of d First) 480 (no' First)) (scanned_is size (slot_of d Second) 480 (no' Second))
+ours-opened size d room no' =
+    subst (λ (p : Io Opened). (j : Journal) × ((run p d).value ≡ Ok j)) (sym (open_large size room))
+    (accepted size d (gathered size (slot_of d First) slot_sectors) (gathered size (slot_of d Second) slot_sectors) (scanned_is size (slot_of d First) slot_sectors (no' First)) (scanned_is size (slot_of d Second) slot_sectors (no' Second)))

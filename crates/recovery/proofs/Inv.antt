@@ -5,7 +5,7 @@ use Rattle.std.proofs.Common.{◌≡◌, ℕ, ◌+◌, ◌<◌, ◌≤◌, Bool,
 use mathlib.Core.List.Memᴰ
 use mathlib.Core.List.{Memᴰ}
 use Rattle.disks.specs.Device.{Device, shown, latest, AfterCut, all_bytes}
-use Rattle.journal.specs.Format.{found}
+use Rattle.journal.specs.Format.{slot_sectors, found}
 use Rattle.journal.specs.Scans.{number_of, number_or_none, redo_count, writes_from}
 use Rattle.journal.specs.Programs.{base, other, in_area}
 use Rattle.recovery.specs.Machines.{last}
@@ -35,8 +35,8 @@ redone_with size g = cond (ltb (number_in size (g Second)) (number_in size (g Fi
 
 pub record Off (size n : ℕ) (array : ℕ → List ℕ) (d : Device) : Type 0 where
   pub clean : (s : ℕ) → d.since s ≡ []
-  pub ours : (slot : Slot) (i : ℕ) → i < 480 → Ours size n i (slot_of d slot i)
-  pub bytes : (slot : Slot) (i : ℕ) → i < 480 → IsSector (slot_of d slot i)
+  pub ours : (slot : Slot) (i : ℕ) → i < slot_sectors → Ours size n i (slot_of d slot i)
+  pub bytes : (slot : Slot) (i : ℕ) → i < slot_sectors → IsSector (slot_of d slot i)
   pub differ : number_in size (slot_of d First) ≡ number_in size (slot_of d Second) → number_in size (slot_of d First) ≡ 0
   pub holds : (s : ℕ) → T (in_area size s) → last (redone_with size (slot_of d)) (shown d s) s ≡ array s
 
@@ -45,9 +45,9 @@ pub record Safe (size n : ℕ) (array : ℕ → List ℕ) (j : Journal) (d : Dev
   pub most : ℕ
   pub above : most < j.next
   pub low : j.next ≤ n + 1
-  pub quiet : (slot : Slot) (i : ℕ) → i < 480 → d.since (base slot + i) ≡ []
-  pub ours : (slot : Slot) (i : ℕ) → i < 480 → Ours size most i (slot_of d slot i)
-  pub bytes : (slot : Slot) (i : ℕ) → i < 480 → IsSector (slot_of d slot i)
+  pub quiet : (slot : Slot) (i : ℕ) → i < slot_sectors → d.since (base slot + i) ≡ []
+  pub ours : (slot : Slot) (i : ℕ) → i < slot_sectors → Ours size most i (slot_of d slot i)
+  pub bytes : (slot : Slot) (i : ℕ) → i < slot_sectors → IsSector (slot_of d slot i)
   pub by-new : (s : ℕ) (x : List ℕ) → T (in_area size s) → Can d s x → last (writes_in size (slot_of d (other j.slot))) x s ≡ array s
   pub by_both : (s : ℕ) (x : List ℕ) → T (in_area size s) → Can d s x → last (writes_in size (slot_of d j.slot) ++ writes_in size (slot_of d (other j.slot))) x s ≡ array s
   pub order : (number_in size (slot_of d j.slot) < number_in size (slot_of d (other j.slot))) ⊎ (number_in size (slot_of d j.slot) ≡ 0)
@@ -65,15 +65,15 @@ pub ours_more : (size m n i : ℕ) (b : List ℕ) → m ≤ n → Ours size m i 
 ours_more size m n i b l (inl e) = inl e
 ours_more size m n i b l (inr q) = let (p, e, k) = q in inr (p, e, omega arith)
 
-pub number_cong : (size : ℕ) (g h : ℕ → List ℕ) → ((i : ℕ) → i < 480 → g i ≡ h i) → number_in size g ≡ number_in size h
-number_cong size g h e = ap number_or_none (scan_cong size g h 480 e)
+pub number_cong : (size : ℕ) (g h : ℕ → List ℕ) → ((i : ℕ) → i < slot_sectors → g i ≡ h i) → number_in size g ≡ number_in size h
+number_cong size g h e = ap number_or_none (scan_cong size g h slot_sectors e)
 
-pub writes_in_cong : (size : ℕ) (g h : ℕ → List ℕ) → ((i : ℕ) → i < 480 → g i ≡ h i) → writes_in size g ≡ writes_in size h
-writes_in_cong size g h e = let c = redo_few (gathered size g 480) in writes_cong g h 0 (redo_count (gathered size g 480)) (λ q l. e q (omega arith)) ∙ ap (λ k. writes_from h 0 (redo_count k)) (scan_cong size g h 480 e)
+pub writes_in_cong : (size : ℕ) (g h : ℕ → List ℕ) → ((i : ℕ) → i < slot_sectors → g i ≡ h i) → writes_in size g ≡ writes_in size h
+writes_in_cong size g h e = let c = redo_few (gathered size g slot_sectors) in writes_cong g h 0 (redo_count (gathered size g slot_sectors)) (λ q l. e q (omega arith)) ∙ ap (λ k. writes_from h 0 (redo_count k)) (scan_cong size g h slot_sectors e)
 
 -- of sectors that are ours: the number is no higher than any; and no number means no writes
-module _ (size most : ℕ) (g : ℕ → List ℕ) (ours : (i : ℕ) → i < 480 → Ours size most i (g i)) where
-  is_some : (r : Record) → (gathered size g 480).whole ≡ Some r → (1 ≤ r.number) × (r.number ≤ most)
+module _ (size most : ℕ) (g : ℕ → List ℕ) (ours : (i : ℕ) → i < slot_sectors → Ours size most i (g i)) where
+  is_some : (r : Record) → (gathered size g slot_sectors).whole ≡ Some r → (1 ≤ r.number) × (r.number ≤ most)
   is_some r e =
       let w = whole_found size g most ours r e in
       let (p, f, a, b) = w.each 0 w.some in
@@ -85,16 +85,16 @@ module _ (size most : ℕ) (g : ℕ → List ℕ) (ours : (i : ℕ) → i < 480 
       go p f a (inr q) = let (p', f', l) = q in let same : p' ≡ p = cc in omega (arith, ap (λ (x : Part). x.number) same)
 
   pub number-low : number_in size g ≤ most
-  number-low = go (gathered size g 480).whole refl
+  number-low = go (gathered size g slot_sectors).whole refl
     where
-      go : (x : Option Record) → (gathered size g 480).whole ≡ x → unwrap_or (number_of x) 0 ≤ most
+      go : (x : Option Record) → (gathered size g slot_sectors).whole ≡ x → unwrap_or (number_of x) 0 ≤ most
       go (Some r) e = (is_some r e).1
       go None e = omega arith
 
   pub no_writes : number_in size g ≡ 0 → writes_in size g ≡ []
-  no_writes z = go (gathered size g 480).whole refl z
+  no_writes z = go (gathered size g slot_sectors).whole refl z
     where
-      go : (x : Option Record) → (gathered size g 480).whole ≡ x → unwrap_or (number_of x) 0 ≡ 0 → writes_in size g ≡ []
+      go : (x : Option Record) → (gathered size g slot_sectors).whole ≡ x → unwrap_or (number_of x) 0 ≡ 0 → writes_in size g ≡ []
       go (Some r) e q = absurd (omega (arith, (is_some r e).0))
       go None e q = none-writes size g e
 

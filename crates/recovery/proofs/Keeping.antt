@@ -1,9 +1,9 @@
 -- The journal keeps to the array, whatever happens: along every trace there is an array that is allowed to be seen so, and that the device and
 -- the memory hold.
-use Rattle.std.proofs.Common.{◌≡◌, ℕ, zero, suc, ◌+◌, ◌≤◌, Bool, true, false, cond, ◌&&◌, T, ltb, ◌⊎◌, List, ◌∷◌, ◌++◌, sym, refl, ap, ◌∙◌, subst, inl, inr, arith, ltb-false, Ok, Err, None}
-use Rattle.disks.specs.Device.{Device, blank_device, zeros, answer, run, Ran, Upto, here, latest, AfterCut, Event, called, cut_in, cut_between, World, off, on, Trace, begin, opened, opening_cut, answered, call_cut, between_cut, Allowed, at_start, was_lost, was_done, came_between, came_opening, all_bytes, then'}
+use Rattle.std.proofs.Common.{◌≡◌, ℕ, zero, suc, ◌+◌, ◌≤◌, Bool, true, false, cond, ◌&&◌, T, ltb, leb, ◌⊎◌, List, ◌∷◌, ◌++◌, sym, refl, ap, ◌∙◌, subst, inl, inr, arith, ltb-false, leb-true, leb-false, Ok, Err, None}
+use Rattle.disks.specs.Device.{Device, blank_device, zeros, Io, answer, run, Ran, Upto, here, latest, AfterCut, Event, called, cut_in, cut_between, World, off, on, Trace, begin, opened, opening_cut, answered, call_cut, between_cut, Allowed, at_start, was_lost, was_done, came_between, came_opening, all_bytes, then'}
 use Rattle.compose.proofs.Compose.{run_then, upto_map}
-use Rattle.journal.specs.Format.{found}
+use Rattle.journal.specs.Format.{slot_sectors, guarded, found}
 use Rattle.journal.specs.Scans.{scan_blank}
 use Rattle.journal.specs.Programs.{in_area, allowed, open_io, get_io, put_io, Put', after_put, Opened, Got}
 use Rattle.recovery.specs.Machines.{Call, Get, Put, Reply, Done', No, got_reply, put_reply, whole_sectors, call_io, journal, Array, last, later, put_into, Answers, got, not_got, put, not_put, used-up, falls, array, JournalKeeps}
@@ -20,6 +20,7 @@ use Rattle.recovery.proofs.Inv.{Off, On, ours_more}
 use Rattle.recovery.proofs.Cutting.{off_of, rest-cut}
 use Rattle.recovery.proofs.Opening.{opens, opens-cut}
 use Rattle.recovery.proofs.Calls.{get_run, get_refused, get_upto, put_refused, put-used-up, put_run, put-after, put-cut, put-still}
+use Rattle.recovery.proofs.Room.{open_large, kept}
 use Rattle.octets.proofs.Numbers.{join}
 
 -- a blank slot has nothing to do again
@@ -35,8 +36,8 @@ blank_found size slot i = found_blank size i
 pub off_blank : (size : ℕ) → Off size 0 (λ s. zeros 512) blank_device
 unfolding latest zeros all_bytes last
 off_blank size =
-    off_of size 0 (λ s. zeros 512) blank_device First (λ s. refl) (λ slot i l. inl (blank_found size slot i)) (λ slot i l. (refl, tt)) (inr (none_number size (slot_of blank_device First) (blank-scan size (slot_of blank_device First) 480 (blank_found size First))))
-    (λ s t. ap (λ (ws : List Write). last (ws ++ writes_in size (slot_of blank_device Second)) (zeros 512) s) (none-writes size (slot_of blank_device First) (blank-scan size (slot_of blank_device First) 480 (blank_found size First))) ∙ ap (λ (ws : List Write). last ws (zeros 512) s) (none-writes size (slot_of blank_device Second) (blank-scan size (slot_of blank_device Second) 480 (blank_found size Second))))
+    off_of size 0 (λ s. zeros 512) blank_device First (λ s. refl) (λ slot i l. inl (blank_found size slot i)) (λ slot i l. (refl, tt)) (inr (none_number size (slot_of blank_device First) (blank-scan size (slot_of blank_device First) slot_sectors (blank_found size First))))
+    (λ s t. ap (λ (ws : List Write). last (ws ++ writes_in size (slot_of blank_device Second)) (zeros 512) s) (none-writes size (slot_of blank_device First) (blank-scan size (slot_of blank_device First) slot_sectors (blank_found size First))) ∙ ap (λ (ws : List Write). last ws (zeros 512) s) (none-writes size (slot_of blank_device Second) (blank-scan size (slot_of blank_device Second) slot_sectors (blank_found size Second))))
 
 -- more steps
 pub off_more : (size n m : ℕ) (a : ℕ → List ℕ) (d : Device) → n ≤ m → Off size n a d → Off size m a d
@@ -145,16 +146,20 @@ module _ (size : ℕ) (fits : size ≤ 1099511627776) where
   came_up : (es : List (Event Call Reply)) (d : Device) (x : Opened) (e : Device) (a : Array) → Allowed (array size) es a → (j : Journal) × (x ≡ Ok j) × On size a.steps a.sector j e → Held es (on x e)
   came_up es d x e a al (j, q, o) = subst (λ (y : Opened). (b : Array) × Allowed (array size) es b × Inv (on y e) b) (sym q) (a, al, o)
 
-  pub held : {es : List (Event Call Reply)} {w : World journal} → Trace journal size es w → Held es w
-  held begin = (record { sector = λ s. zeros 512; steps = 0 }, at_start, off_blank size)
-  held (opened {es} {d} tr) = let (a, al, o) = held tr in came_up es d (run (open_io size) d).value (run (open_io size) d).device a al (opens size a.steps a.sector d o)
-  held (opening_cut {es} {d} {f} {g} tr up cut) = let (a, al, o) = held tr in (later a, came_opening al (falls a), opens-cut size a.steps a.sector d o (suc a.steps) f g (omega arith) up cut)
-  held (answered {es} {m} {d} c tr) = called_on m (held tr)
+  pub held : guarded ≤ size → {es : List (Event Call Reply)} {w : World journal} → Trace journal size es w → Held es w
+  held room begin = (record { sector = λ s. zeros 512; steps = 0 }, at_start, off_blank size)
+  held room (opened {es} {d} tr) =
+      let (a, al, o) = held room tr in
+      came_up es d (run (open_io size) d).value (run (open_io size) d).device a al (subst (λ (p : Io Opened). (j : Journal) × ((run p d).value ≡ Ok j) × On size a.steps a.sector j (run p d).device) (sym (open_large size room)) (opens size a.steps a.sector d o))
+  held room (opening_cut {es} {d} {f} {g} tr up cut) =
+      let (a, al, o) = held room tr in
+      (later a, came_opening al (falls a), opens-cut size a.steps a.sector d o (suc a.steps) f g (omega arith) (subst (λ (p : Io Opened). Upto p d f) (open_large size room) up) cut)
+  held room (answered {es} {m} {d} c tr) = called_on m (held room tr)
     where
       called_on : (m : Opened) → (a : Array) × Allowed (array size) es a × Inv (on m d) a → (b : Array) × Allowed (array size) (called c (run (call_io c m) d).value.reply ∷ es) b × Inv (on (run (call_io c m) d).value.mem (run (call_io c m) d).device) b
       called_on (Ok j) (a, al, o) = let (b, an, i) = stepped a j d o c in (b, Allowed.answers al an, i)
       called_on (Err e) (a, al, o) = absurd o
-  held (call_cut {es} {m} {d} {f} {g} c tr up cut) = cut_on m (held tr) up
+  held room (call_cut {es} {m} {d} {f} {g} c tr up cut) = cut_on m (held room tr) up
     where
       gone : (a : Array) → Allowed (array size) es a → Off size (suc a.steps) a.sector g ⊎ ((r : Reply) × (b : Array) × Answers size c a r b × Off size (suc b.steps) b.sector g) → (b : Array) × Allowed (array size) (cut_in c ∷ es) b × Off size b.steps b.sector g
       gone a al (inl o) = (later a, was_lost al (falls a), o)
@@ -163,11 +168,15 @@ module _ (size : ℕ) (fits : size ≤ 1099511627776) where
       cut_on : (m : Opened) → (a : Array) × Allowed (array size) es a × Inv (on m d) a → Upto (call_io c m) d f → (b : Array) × Allowed (array size) (cut_in c ∷ es) b × Off size b.steps b.sector g
       cut_on (Ok j) (a, al, o) up = gone a al (lost a j d o c f g up cut)
       cut_on (Err e) (a, al, o) up = absurd o
-  held (between_cut {es} {m} {d} {g} tr cut) = cut_on m (held tr)
+  held room (between_cut {es} {m} {d} {g} tr cut) = cut_on m (held room tr)
     where
       cut_on : (m : Opened) → (a : Array) × Allowed (array size) es a × Inv (on m d) a → (b : Array) × Allowed (array size) (cut_between ∷ es) b × Off size b.steps b.sector g
       cut_on (Ok j) (a, al, o) = (later a, came_between al (falls a), rest-cut size a.steps (suc a.steps) a.sector j d g (omega arith) o.safe cut)
       cut_on (Err e) (a, al, o) = absurd o
 
 pub journal-keeps : JournalKeeps
-journal-keeps size lo hi es w tr = let (a, al, i) = held size hi tr in (a, al)
+journal-keeps size lo hi es w tr = go (leb guarded size) refl
+  where
+    go : (b : Bool) → leb guarded size ≡ b → (a : Array) × Allowed (array size) es a
+    go true e = let (a, al, i) = held size hi (leb-true guarded size e) tr in (a, al)
+    go false e = let (a, al, i) = kept size (leb-false guarded size e) tr in (a, al)

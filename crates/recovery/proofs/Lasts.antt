@@ -1,6 +1,7 @@
 -- What stands at a sector after writes: it depends on what stood there before only where no write names the sector.
 use Rattle.std.proofs.Common.{◌≡◌, ℕ, ◌<◌, Bool, true, false, cond, ◌&&◌, ◌||◌, T, eqb, ltb, leb, List, [], ◌∷◌, ◌++◌, sym, refl, ap, subst, inl, inr, arith, eqb-true, leb-true}
 use Rattle.std.proofs.lemmas.Bool.{cases_Bool}
+use Rattle.journal.specs.Format.{guarded}
 use Rattle.journal.specs.Programs.{named, all_in_area}
 use Rattle.recovery.specs.Machines.{last}
 use Rattle.journal.specs.declared.state.Write.{Write}
@@ -42,13 +43,13 @@ pub last_same : (ws : List Write) (x y : List ℕ) (s : ℕ) → (named s ws ≡
 last_same ws x y s h = elim (cases_Bool (named s ws)) [ inl n ↦ last-named ws x y s n | inr n ↦ ap (λ (z : List ℕ). last ws z s) (h n) ]
 
 -- writes within the guarded area name no sector below it
-pub below-area : (size : ℕ) (ws : List Write) (s : ℕ) → T (all_in_area size ws) → s < 960 → named s ws ≡ false
+pub below-area : (size : ℕ) (ws : List Write) (s : ℕ) → T (all_in_area size ws) → s < guarded → named s ws ≡ false
 unfolding all_in_area named
 below-area size [] s t l = refl
-below-area size (w ∷ ws) s t l = go (eqb s w.target.0) refl (leb 960 w.target.0) refl (ltb w.target.0 size) t (λ u. below-area size ws s u l)
+below-area size (w ∷ ws) s t l = go (eqb s w.target.0) refl (leb guarded w.target.0) refl (ltb w.target.0 size) t (λ u. below-area size ws s u l)
   where
-    go : (b : Bool) → eqb s w.target.0 ≡ b → (c : Bool) → leb 960 w.target.0 ≡ c → (d : Bool) → T ((c && d) && all_in_area size ws) → (T (all_in_area size ws) → named s ws ≡ false) → b || named s ws ≡ false
-    go true e true f d u more = absurd (omega (arith, eqb-true s w.target.0 e, leb-true 960 w.target.0 f))
+    go : (b : Bool) → eqb s w.target.0 ≡ b → (c : Bool) → leb guarded w.target.0 ≡ c → (d : Bool) → T ((c && d) && all_in_area size ws) → (T (all_in_area size ws) → named s ws ≡ false) → b || named s ws ≡ false
+    go true e true f d u more = absurd (omega (arith, eqb-true s w.target.0 e, leb-true guarded w.target.0 f))
     go true e false f d u more = absurd u
     go false e true f true u more = more u
     go false e true f false u more = absurd u

@@ -9,6 +9,7 @@ pub mod Redoing
 pub mod Inv
 pub mod Cutting
 pub mod Opening
+pub mod Room
 pub mod Calls
 pub mod Keeping
 pub mod Staying

@@ -1,8 +1,8 @@
 -- A slot into which a record was being written when the power failed: it has the new record whole, or the old one, or none. Each sector
 -- is as it was or as the new record has it; numbers are never used again, so sectors of two records are told apart.
-use Rattle.std.proofs.Common.{◌≡◌, ℕ, ◌*◌, ◌/◌, ◌<◌, ◌≤◌, Bool, true, false, T, eqb, ◌≢◌, ◌⊎◌, List, [], length, sym, refl, ap, ◌∙◌, subst, inl, inr, arith, eqb-true, le-leb, Ok, Some, None, Option}
+use Rattle.std.proofs.Common.{◌-◌, ◌≡◌, ℕ, ◌*◌, ◌/◌, ◌<◌, ◌≤◌, Bool, true, false, T, eqb, ◌≢◌, ◌⊎◌, List, [], length, sym, refl, ap, ◌∙◌, subst, inl, inr, arith, eqb-true, le-leb, Ok, Some, None, Option}
 use borrow.Author.Tests.{eqb-false}
-use Rattle.journal.specs.Format.{found}
+use Rattle.journal.specs.Format.{most_writes, slot_sectors, found}
 use Rattle.journal.specs.Scans.{number_or_none, redo_count, writes_from}
 use Rattle.journal.specs.Programs.{record_sector, all_in_area}
 use Rattle.recovery.specs.Machines.{whole_sectors}
@@ -14,28 +14,28 @@ use Rattle.recovery.proofs.Scanning.{Ours, Has, Whole, found_whole, whole_found,
 
 -- the number and the writes of the record that a slot would have done again
 abbrev pub number_in : ℕ → (ℕ → List ℕ) → ℕ
-number_in size g = number_or_none (gathered size g 480)
+number_in size g = number_or_none (gathered size g slot_sectors)
 
 abbrev pub writes_in : ℕ → (ℕ → List ℕ) → List Write
-writes_in size g = writes_from g 0 (redo_count (gathered size g 480))
+writes_in size g = writes_from g 0 (redo_count (gathered size g slot_sectors))
 
 -- of a record that is all there
 pub whole-number : (size : ℕ) (g : ℕ → List ℕ) (n len : ℕ) → Whole size g n len → number_in size g ≡ n
-whole-number size g n len w = rw (found_whole size g n len w 479)
+whole-number size g n len w = rw (found_whole size g n len w (slot_sectors - 1))
 
-pub whole-count : (size : ℕ) (g : ℕ → List ℕ) (n len : ℕ) → Whole size g n len → redo_count (gathered size g 480) ≡ len / 2
+pub whole-count : (size : ℕ) (g : ℕ → List ℕ) (n len : ℕ) → Whole size g n len → redo_count (gathered size g slot_sectors) ≡ len / 2
 whole-count size g n len w =
-    rw (found_whole size g n len w 479, le-leb len 480 w.short)
+    rw (found_whole size g n len w (slot_sectors - 1), le-leb len slot_sectors w.short)
 
 -- of a slot with none
-pub none_number : (size : ℕ) (g : ℕ → List ℕ) → (gathered size g 480).whole ≡ None → number_in size g ≡ 0
+pub none_number : (size : ℕ) (g : ℕ → List ℕ) → (gathered size g slot_sectors).whole ≡ None → number_in size g ≡ 0
 none_number size g e = rw e
 
-pub none-writes : (size : ℕ) (g : ℕ → List ℕ) → (gathered size g 480).whole ≡ None → writes_in size g ≡ []
+pub none-writes : (size : ℕ) (g : ℕ → List ℕ) → (gathered size g slot_sectors).whole ≡ None → writes_in size g ≡ []
 unfolding writes_from
 none-writes size g e = rw e
 
-module _ (size n : ℕ) (ws : List Write) (some : 1 ≤ n) (below : n < 4611686018427387904) (one : 1 ≤ length ws) (few : length ws ≤ 240) (area : T (all_in_area size ws)) (sectors : T (whole_sectors ws)) (fits : size ≤ 1099511627776) where
+module _ (size n : ℕ) (ws : List Write) (some : 1 ≤ n) (below : n < 4611686018427387904) (one : 1 ≤ length ws) (few : length ws ≤ most_writes) (area : T (all_in_area size ws)) (sectors : T (whole_sectors ws)) (fits : size ≤ 1099511627776) where
   is_found : (j : ℕ) → j < 2 * length ws → found size j (record_sector n ws j) ≡ Ok (Some (part size n ws some below few area sectors fits j))
   is_found = sector_found size n ws some below few area sectors fits
 
@@ -43,12 +43,12 @@ module _ (size n : ℕ) (ws : List Write) (some : 1 ≤ n) (below : n < 46116860
   pub there : (h : ℕ → List ℕ) → ((i : ℕ) → i < 2 * length ws → h i ≡ record_sector n ws i) → (number_in size h ≡ n) × (writes_in size h ≡ ws)
   there h e =
       let w : Whole size h n (2 * length ws) = record { some = omega arith; short = omega arith; each = λ i l. (part size n ws some below few area sectors fits i, ap (found size i) (e i l) ∙ is_found i l, refl, refl) } in
-      let c : redo_count (gathered size h 480) ≡ length ws = whole-count size h n (2 * length ws) w ∙ omega arith in
+      let c : redo_count (gathered size h slot_sectors) ≡ length ws = whole-count size h n (2 * length ws) w ∙ omega arith in
       (whole-number size h n (2 * length ws) w, ap (writes_from h 0) c ∙ writes_back size n ws some below few area sectors fits h 0 (length ws) (omega arith) e)
 
-  module _ (g h : ℕ → List ℕ) (most : ℕ) (old : most < n) (ours : (i : ℕ) → i < 480 → Ours size most i (g i)) (mixed : (i : ℕ) → i < 480 → (h i ≡ g i) ⊎ ((i < 2 * length ws) × (h i ≡ record_sector n ws i))) where
+  module _ (g h : ℕ → List ℕ) (most : ℕ) (old : most < n) (ours : (i : ℕ) → i < slot_sectors → Ours size most i (g i)) (mixed : (i : ℕ) → i < slot_sectors → (h i ≡ g i) ⊎ ((i < 2 * length ws) × (h i ≡ record_sector n ws i))) where
     -- its sectors are ours again
-    pub mixed-ours : (i : ℕ) → i < 480 → Ours size n i (h i)
+    pub mixed-ours : (i : ℕ) → i < slot_sectors → Ours size n i (h i)
     mixed-ours i l = go (mixed i l) (ours i l)
       where
         go : (h i ≡ g i) ⊎ ((i < 2 * length ws) × (h i ≡ record_sector n ws i)) → Ours size most i (g i) → Ours size n i (h i)
@@ -57,7 +57,7 @@ module _ (size n : ℕ) (ws : List Write) (some : 1 ≤ n) (below : n < 46116860
         go (inr q) o = let (k, e) = q in inr (part size n ws some below few area sectors fits i, ap (found size i) e ∙ is_found i k, omega arith)
 
     -- a sector that carries a number: the new one's, and then it is the new record's; or another, and then it is as it was
-    carries : (m len i : ℕ) → i < 480 → Has size h m len i → (m ≡ n → (i < 2 * length ws) × (h i ≡ record_sector n ws i) × (len ≡ 2 * length ws)) × (m ≢ n → h i ≡ g i)
+    carries : (m len i : ℕ) → i < slot_sectors → Has size h m len i → (m ≡ n → (i < 2 * length ws) × (h i ≡ record_sector n ws i) × (len ≡ 2 * length ws)) × (m ≢ n → h i ≡ g i)
     carries m len i l x = go (mixed i l) (ours i l) x
       where
         go : (h i ≡ g i) ⊎ ((i < 2 * length ws) × (h i ≡ record_sector n ws i)) → Ours size most i (g i) → Has size h m len i → (m ≡ n → (i < 2 * length ws) × (h i ≡ record_sector n ws i) × (len ≡ 2 * length ws)) × (m ≢ n → h i ≡ g i)
@@ -78,9 +78,9 @@ module _ (size n : ℕ) (ws : List Write) (some : 1 ≤ n) (below : n < 46116860
       none : number_in size h ≡ 0 → writes_in size h ≡ [] → Outcome
 
     pub outcome : Outcome
-    outcome = go (gathered size h 480).whole refl
+    outcome = go (gathered size h slot_sectors).whole refl
       where
-        is_whole : (r : Record) → (gathered size h 480).whole ≡ Some r → (x : Bool) → eqb r.number n ≡ x → Outcome
+        is_whole : (r : Record) → (gathered size h slot_sectors).whole ≡ Some r → (x : Bool) → eqb r.number n ≡ x → Outcome
         is_whole r e true q =
             let w = whole_found size h n mixed-ours r e in
             let same = eqb-true r.number n q in
@@ -96,6 +96,6 @@ module _ (size n : ℕ) (ws : List Write) (some : 1 ≤ n) (below : n < 46116860
             as_before (whole-number size h m len w ∙ sym (whole-number size g m len was))
             (ap (writes_from h 0) (whole-count size h m len w) ∙ writes_cong h g 0 (len / 2) (λ i l. back i (omega arith)) ∙ ap (writes_from g 0) (sym (whole-count size g m len was)))
 
-        go : (x : Option Record) → (gathered size h 480).whole ≡ x → Outcome
+        go : (x : Option Record) → (gathered size h slot_sectors).whole ≡ x → Outcome
         go (Some r) e = is_whole r e (eqb r.number n) refl
         go None e = none (none_number size h e) (none-writes size h e)

@@ -7,9 +7,9 @@ use Rattle.std.proofs.lemmas.List.Folds.{list_any-append}
 use Rattle.disks.specs.Device.{Device, Io, answer, run, Ran, Upto, here, shown, latest, synced, then', AfterCut}
 use Rattle.compose.proofs.Compose.{run_then, upto_then, upto_map}
 use Rattle.journal.specs.Scans.{Scanned, scan_start, higher}
-use Rattle.journal.specs.Programs.{base, other, in_area, named, write_all_io, scan_io, redo_io, recover_io, open_io, ready, Opened}
+use Rattle.journal.specs.Programs.{base, other, in_area, named, write_all_io, scan_io, redo_io, recover_io, slots_io, ready, Opened}
 use Rattle.recovery.specs.Machines.{last}
-use Rattle.journal.specs.Format.{found}
+use Rattle.journal.specs.Format.{slot_sectors, found}
 use Rattle.journal.specs.declared.part.Part.{Part}
 use Rattle.journal.specs.declared.scan.Scan.{Scan}
 use Rattle.journal.specs.declared.state.Write.{Write}
@@ -32,7 +32,7 @@ area-append xs ys s a b = list_any-append (λ (w : Write). eqb s w.target.0) xs 
 
 module _ (size n : ℕ) (array : ℕ → List ℕ) (d : Device) (off : Off size n array d) where
   -- numbers stay below the limit by themselves
-  few : (slot : Slot) (i : ℕ) → i < 480 → Ours size 4611686018427387903 i (slot_of d slot i)
+  few : (slot : Slot) (i : ℕ) → i < slot_sectors → Ours size 4611686018427387903 i (slot_of d slot i)
   few slot i l = go (off.ours slot i l)
     where
       go : Ours size n i (slot_of d slot i) → Ours size 4611686018427387903 i (slot_of d slot i)
@@ -44,7 +44,7 @@ module _ (size n : ℕ) (array : ℕ → List ℕ) (d : Device) (off : Off size 
     abbrev again : List Write
     again = redone size n d off.ours o
 
-    not_journal : (slot : Slot) (i : ℕ) → i < 480 → named (base slot + i) again ≡ false
+    not_journal : (slot : Slot) (i : ℕ) → i < slot_sectors → named (base slot + i) again ≡ false
     not_journal slot i l = area-append (writes_in size (slot_of d o)) (writes_in size (slot_of d (other o))) (base slot + i) (below-area size (writes_in size (slot_of d o)) (base slot + i) (found_in_area size n (slot_of d o) (off.ours o)) (slot_low slot i l)) (below-area size (writes_in size (slot_of d (other o))) (base slot + i) (found_in_area size n (slot_of d (other o)) (off.ours (other o))) (slot_low slot i l))
 
     value : (s : ℕ) → T (in_area size s) → last again (shown d s) s ≡ array s
@@ -59,14 +59,14 @@ module _ (size n : ℕ) (array : ℕ → List ℕ) (d : Device) (off : Off size 
         unchanged : (s : ℕ) → named s again ≡ false → shown f s ≡ shown d s
         unchanged s un = let a = upto_other again d e s un up in can-quiet e s (shown f s) (a.since ∙ off.clean s) (can-cut e f s c) ∙ alike_shown a
 
-        same : (slot : Slot) (i : ℕ) → i < 480 → slot_of f slot i ≡ slot_of d slot i
+        same : (slot : Slot) (i : ℕ) → i < slot_sectors → slot_of f slot i ≡ slot_of d slot i
         same slot i l = unchanged (base slot + i) (not_journal slot i l)
 
     -- done
     abbrev opened : Device
     opened = synced (all_done size n d off.ours o)
 
-    opened_same : (slot : Slot) (i : ℕ) → i < 480 → slot_of opened slot i ≡ slot_of d slot i
+    opened_same : (slot : Slot) (i : ℕ) → i < slot_sectors → slot_of opened slot i ≡ slot_of d slot i
     unfolding latest
     opened_same slot i l = alike_shown (upto_other again d (all_done size n d off.ours o) (base slot + i) (not_journal slot i l) (all_upto again d))
 
@@ -75,15 +75,15 @@ module _ (size n : ℕ) (array : ℕ → List ℕ) (d : Device) (off : Off size 
     opened_shown s t = all_shown again d s ∙ value s t
 
     abbrev a : Scan
-    a = gathered size (slot_of d o) 480
+    a = gathered size (slot_of d o) slot_sectors
 
     abbrev b : Scan
-    b = gathered size (slot_of d (other o)) 480
+    b = gathered size (slot_of d (other o)) slot_sectors
 
     highest_low : higher a.highest b.highest < 4611686018427387904
     highest_low =
-        let x = seen size (slot_of d o) 4611686018427387903 480 (few o) in
-        let y = seen size (slot_of d (other o)) 4611686018427387903 480 (few (other o)) in
+        let x = seen size (slot_of d o) 4611686018427387903 slot_sectors (few o) in
+        let y = seen size (slot_of d (other o)) 4611686018427387903 slot_sectors (few (other o)) in
         let z = high_most a.highest b.highest 4611686018427387903 x.below y.below in
         omega arith
 
@@ -93,8 +93,8 @@ module _ (size n : ℕ) (array : ℕ → List ℕ) (d : Device) (off : Off size 
     pub open_on : On size n array (ready size o a b) opened
     unfolding latest
     open_on =
-        let x = seen size (slot_of d o) n 480 (off.ours o) in
-        let y = seen size (slot_of d (other o)) n 480 (off.ours (other o)) in
+        let x = seen size (slot_of d o) n slot_sectors (off.ours o) in
+        let y = seen size (slot_of d (other o)) n slot_sectors (off.ours (other o)) in
         record {
           safe =
               record {
@@ -103,7 +103,7 @@ module _ (size n : ℕ) (array : ℕ → List ℕ) (d : Device) (off : Off size 
                 above = omega (arith, next_is);
                 low = let z = high_most a.highest b.highest n x.below y.below in omega (arith, next_is);
                 quiet = λ slot i l. refl;
-                ours = λ slot i l. subst (Ours size (higher a.highest b.highest) i) (sym (opened_same slot i l)) (per_slot (λ z. (k : ℕ) → k < 480 → Ours size (higher a.highest b.highest) k (slot_of d z k)) o (λ k m. raised o a.highest k m (high_left a.highest b.highest) (x.above k) (off.ours o k m)) (λ k m. raised (other o) b.highest k m (high_right a.highest b.highest) (y.above k) (off.ours (other o) k m)) slot i l);
+                ours = λ slot i l. subst (Ours size (higher a.highest b.highest) i) (sym (opened_same slot i l)) (per_slot (λ z. (k : ℕ) → k < slot_sectors → Ours size (higher a.highest b.highest) k (slot_of d z k)) o (λ k m. raised o a.highest k m (high_left a.highest b.highest) (x.above k) (off.ours o k m)) (λ k m. raised (other o) b.highest k m (high_right a.highest b.highest) (y.above k) (off.ours (other o) k m)) slot i l);
                 bytes = λ slot i l. subst IsSector (sym (opened_same slot i l)) (off.bytes slot i l);
                 by-new = λ s z t can. ap (λ (ws : List Write). last ws z s) (writes_in_cong size (slot_of opened (other o)) (slot_of d (other o)) (opened_same (other o))) ∙ ap (λ (q : List ℕ). last (writes_in size (slot_of d (other o))) q s) (settled s z t can) ∙ new-again s t;
                 by_both = λ s z t can. ap (λ (ws : List Write). last ws z s) (both_cong size (slot_of d) (slot_of opened) opened_same o) ∙ ap (λ (q : List ℕ). last again q s) (settled s z t can ∙ sym (value s t)) ∙ last-again again (shown d s) s ∙ value s t;
@@ -120,7 +120,7 @@ module _ (size n : ℕ) (array : ℕ → List ℕ) (d : Device) (off : Off size 
             let was : array s ≡ last (writes_in size (slot_of d (other o))) (last (writes_in size (slot_of d o)) (shown d s) s) s = sym (value s t) ∙ last-append (writes_in size (slot_of d o)) (writes_in size (slot_of d (other o))) (shown d s) s in
             ap (λ (q : List ℕ). last (writes_in size (slot_of d (other o))) q s) was ∙ last-again (writes_in size (slot_of d (other o))) (last (writes_in size (slot_of d o)) (shown d s) s) s ∙ sym was
 
-        raised : (slot : Slot) (top k : ℕ) → k < 480 → top ≤ higher a.highest b.highest → ((p : Part) → k < 480 → found size k (slot_of d slot k) ≡ Ok (Some p) → p.number ≤ top) → Ours size n k (slot_of d slot k) → Ours size (higher a.highest b.highest) k (slot_of d slot k)
+        raised : (slot : Slot) (top k : ℕ) → k < slot_sectors → top ≤ higher a.highest b.highest → ((p : Part) → k < slot_sectors → found size k (slot_of d slot k) ≡ Ok (Some p) → p.number ≤ top) → Ours size n k (slot_of d slot k) → Ours size (higher a.highest b.highest) k (slot_of d slot k)
         raised slot top k m h up (inl e) = inl e
         raised slot top k m h up (inr q) = let (p, e, l) = q in inr (p, e, omega (arith, up p m e))
 
@@ -139,10 +139,10 @@ module _ (size n : ℕ) (array : ℕ → List ℕ) (d : Device) (off : Off size 
 
   -- THE PROGRAM: both scans read only
   abbrev scan : Slot → Scan
-  scan slot = gathered size (slot_of d slot) 480
+  scan slot = gathered size (slot_of d slot) slot_sectors
 
   pub scan_is : (slot : Slot) → run (scan_io size slot) d ≡ record { value = Ok (scan slot); device = d }
-  scan_is slot = slot_run size d slot ∙ ap (λ (r : Scanned). record { value = r; device = d }) (scanned_is size (slot_of d slot) 480 (λ i l. not_foreign size n i (slot_of d slot i) (off.ours slot i l)))
+  scan_is slot = slot_run size d slot ∙ ap (λ (r : Scanned). record { value = r; device = d }) (scanned_is size (slot_of d slot) slot_sectors (λ i l. not_foreign size n i (slot_of d slot i) (off.ours slot i l)))
 
   -- what follows the scans
   abbrev rest : Slot → Io Opened
@@ -153,8 +153,8 @@ module _ (size n : ℕ) (array : ℕ → List ℕ) (d : Device) (off : Off size 
   recover_is Second (second e) = rw e
   recover_is First (first e) = rw e
 
-  pub open_run : (o : Slot) → Older o → run (open_io size) d ≡ record { value = Ok (ready size o (scan o) (scan (other o))); device = synced (all_done size n d off.ours o) }
-  unfolding open_io run
+  pub open_run : (o : Slot) → Older o → run (slots_io size) d ≡ record { value = Ok (ready size o (scan o) (scan (other o))); device = synced (all_done size n d off.ours o) }
+  unfolding run
   open_run o x =
       run_then (scan_io size First) (λ a. then' (scan_io size Second) (λ b. recover_io size a b)) d
       ∙ ap (λ (r : Ran Scanned). run (then' (scan_io size Second) (λ b. recover_io size r.value b)) r.device) (scan_is First)
@@ -165,11 +165,11 @@ module _ (size n : ℕ) (array : ℕ → List ℕ) (d : Device) (off : Off size 
       ∙ ap (λ (r : Ran (Unit {0})). record { value = Ok (ready size o (scan o) (scan (other o))); device = r.device }) (redo_run size n d off.ours o)
 
   -- where it may be cut: nothing is written, or some of what is done again, or all of it and synced
-  pub open_upto : (o : Slot) → Older o → (e : Device) → Upto (open_io size) d e → Upto (write_all_io (redone size n d off.ours o)) d e ⊎ (e ≡ synced (all_done size n d off.ours o))
-  unfolding open_io run
+  pub open_upto : (o : Slot) → Older o → (e : Device) → Upto (slots_io size) d e → Upto (write_all_io (redone size n d off.ours o)) d e ⊎ (e ≡ synced (all_done size n d off.ours o))
+  unfolding run
   open_upto o x e u =
       elim (upto_then (scan_io size First) (λ a. then' (scan_io size Second) (λ b. recover_io size a b)) d e u) [
-        | inl v ↦ still (scan_upto size (base First) 0 480 (Ok scan_start) d e v)
+        | inl v ↦ still (scan_upto size (base First) 0 slot_sectors (Ok scan_start) d e v)
         | inr v ↦ second-scan (subst (λ (r : Ran Scanned). Upto (then' (scan_io size Second) (λ b. recover_io size r.value b)) r.device e) (scan_is First) v)
       ]
     where
@@ -182,7 +182,7 @@ module _ (size n : ℕ) (array : ℕ → List ℕ) (d : Device) (off : Off size 
       second-scan : Upto (then' (scan_io size Second) (λ b. recover_io size (Ok (scan First)) b)) d e → Upto (write_all_io (redone size n d off.ours o)) d e ⊎ (e ≡ synced (all_done size n d off.ours o))
       second-scan v =
           elim (upto_then (scan_io size Second) (λ b. recover_io size (Ok (scan First)) b) d e v) [
-            | inl w ↦ still (scan_upto size (base Second) 0 480 (Ok scan_start) d e w)
+            | inl w ↦ still (scan_upto size (base Second) 0 slot_sectors (Ok scan_start) d e w)
             | inr w ↦ then_rest (subst (λ (p : Io Opened). Upto p d e) (recover_is o x) (subst (λ (r : Ran Scanned). Upto (recover_io size (Ok (scan First)) r.value) r.device e) (scan_is Second) w))
           ]
 
@@ -194,14 +194,15 @@ module _ (size n : ℕ) (array : ℕ → List ℕ) (d : Device) (off : Off size 
       go false e = (First, first e)
 
   -- OPENED, and cut
-  pub opens : (j : Journal) × ((run (open_io size) d).value ≡ Ok j) × On size n array j (run (open_io size) d).device
+  -- on a device with room for the journal, that is all of opening
+  pub opens : (j : Journal) × ((run (slots_io size) d).value ≡ Ok j) × On size n array j (run (slots_io size) d).device
   opens =
       let (o, x) = which in
       let y = in_order o x in
       let r = open_run o x in
       (ready size o (scan o) (scan (other o)), ap (λ (q : Ran Opened). q.value) r, subst (λ (q : Ran Opened). On size n array (ready size o (scan o) (scan (other o))) q.device) (sym r) (open_on o y.0 y.1))
 
-  pub opens-cut : (m : ℕ) (e f : Device) → n ≤ m → Upto (open_io size) d e → AfterCut e f → Off size m array f
+  pub opens-cut : (m : ℕ) (e f : Device) → n ≤ m → Upto (slots_io size) d e → AfterCut e f → Off size m array f
   opens-cut m e f more u c =
       let (o, x) = which in
       let y = in_order o x in

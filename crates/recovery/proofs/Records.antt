@@ -3,7 +3,7 @@ use Rattle.std.proofs.Common.{◌≡◌, ℕ, zero, suc, ◌+◌, ◌*◌, ◌/�
 use borrow.Author.Tests.{eqb-false}
 use Rattle.std.proofs.lemmas.List.{drop_all}
 use Rattle.disks.specs.Device.{all_bytes}
-use Rattle.journal.specs.Format.{part_of, half_of, found}
+use Rattle.journal.specs.Format.{most_writes, guarded, part_of, half_of, found}
 use Rattle.journal.specs.Scans.{write_at, writes_from}
 use Rattle.journal.specs.Programs.{no_write, half_at, record_sector, record_from, named, all_in_area}
 use Rattle.recovery.specs.Machines.{whole_sectors, last}
@@ -16,14 +16,14 @@ use Rattle.recovery.proofs.Lasts.{last_other}
 use Rattle.octets.proofs.Numbers.{both}
 use Rattle.recovery.proofs.Tests.{is_so}
 
-pub area_at : (size : ℕ) (ws : List Write) (k : ℕ) → T (all_in_area size ws) → k < length ws → (960 ≤ (get_or ws k no_write).target.0) × ((get_or ws k no_write).target.0 < size)
+pub area_at : (size : ℕ) (ws : List Write) (k : ℕ) → T (all_in_area size ws) → k < length ws → (guarded ≤ (get_or ws k no_write).target.0) × ((get_or ws k no_write).target.0 < size)
 unfolding all_in_area
 area_at size [] k t l = absurd (omega arith)
 area_at size (w ∷ ws) zero t l =
-    let a = both (leb 960 w.target.0 && ltb w.target.0 size) (all_in_area size ws) t in
-    let b = both (leb 960 w.target.0) (ltb w.target.0 size) a.0 in
-    (leb-true 960 w.target.0 (is_so (leb 960 w.target.0) b.0), ltb-true w.target.0 size (is_so (ltb w.target.0 size) b.1))
-area_at size (w ∷ ws) (suc k) t l = area_at size ws k (both (leb 960 w.target.0 && ltb w.target.0 size) (all_in_area size ws) t).1 (omega arith)
+    let a = both (leb guarded w.target.0 && ltb w.target.0 size) (all_in_area size ws) t in
+    let b = both (leb guarded w.target.0) (ltb w.target.0 size) a.0 in
+    (leb-true guarded w.target.0 (is_so (leb guarded w.target.0) b.0), ltb-true w.target.0 size (is_so (ltb w.target.0 size) b.1))
+area_at size (w ∷ ws) (suc k) t l = area_at size ws k (both (leb guarded w.target.0 && ltb w.target.0 size) (all_in_area size ws) t).1 (omega arith)
 
 pub whole_at : (ws : List Write) (k : ℕ) → T (whole_sectors ws) → k < length ws → (length (get_or ws k no_write).bytes ≡ 512) × T (all_bytes (get_or ws k no_write).bytes)
 unfolding whole_sectors
@@ -69,7 +69,7 @@ from_among at n ws j (suc k) s x (this e f) = (j, e, omega arith, f)
 from_among at n ws j (suc k) s x (further a) = let (q, e, l, f) = from_among at n ws (j + 1) k s x a in (q, e, omega arith, f)
 
 -- a record that may be written: its sectors, one by one, and all of them
-module _ (size n : ℕ) (ws : List Write) (some : 1 ≤ n) (below : n < 4611686018427387904) (few : length ws ≤ 240) (area : T (all_in_area size ws)) (whole : T (whole_sectors ws)) (fits : size ≤ 1099511627776) where
+module _ (size n : ℕ) (ws : List Write) (some : 1 ≤ n) (below : n < 4611686018427387904) (few : length ws ≤ most_writes) (area : T (all_in_area size ws)) (whole : T (whole_sectors ws)) (fits : size ≤ 1099511627776) where
   abbrev pub part : ℕ → Part
   part j = record { number = n; index = j; length = 2 * length ws; target = (get_or ws (j / 2) no_write).target }
 

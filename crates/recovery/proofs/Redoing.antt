@@ -2,7 +2,7 @@
 use Rattle.std.proofs.Common.{◌≡◌, ℕ, zero, suc, ◌+◌, ◌*◌, ◌/◌, ◌<◌, ◌≤◌, Bool, true, false, cond, ◌&&◌, T, ltb, leb, ◌≢◌, ◌⊎◌, List, [], ◌∷◌, ◌++◌, sym, refl, ap, ◌∙◌, subst, inl, inr, add-zero, add-one, arith, le→leb, lt→ltb, ne_eqb, leb-true, Some, None, Option}
 use Rattle.disks.specs.Device.{Device, Io, answer, sync, run, Ran, Upto, here, reads, writes, syncs, shown, written, synced, then'}
 use Rattle.compose.proofs.Compose.{run_then, upto_then}
-use Rattle.journal.specs.Format.{part_of, half_of}
+use Rattle.journal.specs.Format.{most_writes, slot_sectors, guarded, part_of, half_of}
 use Rattle.journal.specs.Scans.{Scanned, scan_on, scanned, count_of, redo_count, write_at, writes_from}
 use Rattle.journal.specs.Programs.{base, other, write_all_io, all_in_area, scan_from, scan_io, replay_from, redo_io}
 use Rattle.journal.specs.declared.part.Part.{Part}
@@ -54,31 +54,31 @@ upto_behind (x ∷ xs) ys d e u = writes (upto_behind xs ys (written x.target.0 
 -- REPLAYS: as the record's writes
 module _ (size at : ℕ) (g : ℕ → List ℕ) where
   -- after one write in the guarded area the journal shows the same
-  pub apart_from : (w : Write) (ws : List Write) (d : Device) (i k : ℕ) → at + 2 * (i + k) ≤ 960 → T (all_in_area size (w ∷ ws)) → ((q : ℕ) → q < 2 * (i + k) → shown d (at + q) ≡ g q) → (q : ℕ) → q < 2 * (i + k) → shown (written w.target.0 w.bytes d) (at + q) ≡ g q
+  pub apart_from : (w : Write) (ws : List Write) (d : Device) (i k : ℕ) → at + 2 * (i + k) ≤ guarded → T (all_in_area size (w ∷ ws)) → ((q : ℕ) → q < 2 * (i + k) → shown d (at + q) ≡ g q) → (q : ℕ) → q < 2 * (i + k) → shown (written w.target.0 w.bytes d) (at + q) ≡ g q
   unfolding all_in_area
   apart_from w ws d i k fits area same q l =
-      let a = both (leb 960 w.target.0 && ltb w.target.0 size) (all_in_area size ws) area in
-      let b = leb-true 960 w.target.0 (is_so (leb 960 w.target.0) (both (leb 960 w.target.0) (ltb w.target.0 size) a.0).0) in
+      let a = both (leb guarded w.target.0 && ltb w.target.0 size) (all_in_area size ws) area in
+      let b = leb-true guarded w.target.0 (is_so (leb guarded w.target.0) (both (leb guarded w.target.0) (ltb w.target.0 size) a.0).0) in
       let ne : at + q ≢ w.target.0 = omega arith in
       alike_shown (written_other w.target.0 w.bytes d (at + q) (ne_eqb (at + q) w.target.0 ne)) ∙ same q l
 
   pub further : (w : Write) (ws : List Write) → T (all_in_area size (w ∷ ws)) → T (all_in_area size ws)
   unfolding all_in_area
-  further w ws t = (both (leb 960 w.target.0 && ltb w.target.0 size) (all_in_area size ws) t).1
+  further w ws t = (both (leb guarded w.target.0 && ltb w.target.0 size) (all_in_area size ws) t).1
 
   -- the write that a turn makes is the record's
   turn : {X : Type 0} (F : ℕ → List ℕ → X) (d : Device) (i : ℕ) → shown d (at + 2 * i) ≡ g (2 * i) → shown d (at + (2 * i + 1)) ≡ g (2 * i + 1) →
       F (part_of (shown d (at + 2 * i))).target.0 (half_of (shown d (at + 2 * i)) ++ half_of (shown d (at + (2 * i + 1)))) ≡ F (write_at g i).target.0 (write_at g i).bytes
   turn F d i a b = ap (λ (x : List ℕ). F (part_of x).target.0 (half_of x ++ half_of (shown d (at + (2 * i + 1))))) a ∙ ap (λ (x : List ℕ). F (part_of (g (2 * i))).target.0 (half_of (g (2 * i)) ++ half_of x)) b
 
-  pub replay_run : (i k : ℕ) (d : Device) → at + 2 * (i + k) ≤ 960 → T (all_in_area size (writes_from g i k)) → ((q : ℕ) → q < 2 * (i + k) → shown d (at + q) ≡ g q) → run (replay_from at i k) d ≡ run (write_all_io (writes_from g i k)) d
+  pub replay_run : (i k : ℕ) (d : Device) → at + 2 * (i + k) ≤ guarded → T (all_in_area size (writes_from g i k)) → ((q : ℕ) → q < 2 * (i + k) → shown d (at + q) ≡ g q) → run (replay_from at i k) d ≡ run (write_all_io (writes_from g i k)) d
   unfolding replay_from write_all_io writes_from run
   replay_run i zero d fits area same = refl
   replay_run i (suc k) d fits area same =
       turn (λ t b. run (replay_from at (i + 1) k) (written t b d)) d i (same (2 * i) (omega arith)) (same (2 * i + 1) (omega arith))
       ∙ replay_run (i + 1) k (written (write_at g i).target.0 (write_at g i).bytes d) (omega arith) (further (write_at g i) (writes_from g (i + 1) k) area) (λ q l. apart_from (write_at g i) (writes_from g (i + 1) k) d i (suc k) fits area same q (omega arith))
 
-  pub replay_upto : (i k : ℕ) (d e : Device) → at + 2 * (i + k) ≤ 960 → T (all_in_area size (writes_from g i k)) → ((q : ℕ) → q < 2 * (i + k) → shown d (at + q) ≡ g q) → Upto (replay_from at i k) d e → Upto (write_all_io (writes_from g i k)) d e
+  pub replay_upto : (i k : ℕ) (d e : Device) → at + 2 * (i + k) ≤ guarded → T (all_in_area size (writes_from g i k)) → ((q : ℕ) → q < 2 * (i + k) → shown d (at + q) ≡ g q) → Upto (replay_from at i k) d e → Upto (write_all_io (writes_from g i k)) d e
   unfolding replay_from write_all_io writes_from
   replay_upto i zero d e fits area same here = here
   replay_upto i (suc k) d e fits area same here = here
@@ -96,18 +96,18 @@ in_area_lem size g n len i (suc k) w l =
     let (p, f, a, b) = w.each (2 * i) (omega arith) in
     let s = found_is size (2 * i) (g (2 * i)) p f in
     let same : p.target.0 ≡ (part_of (g (2 * i))).target.0 = ap (λ (x : Part). x.target.0) s.0 in
-    join (leb 960 (part_of (g (2 * i))).target.0 && ltb (part_of (g (2 * i))).target.0 size) (all_in_area size (writes_from g (i + 1) k))
-    (join (leb 960 (part_of (g (2 * i))).target.0) (ltb (part_of (g (2 * i))).target.0 size) (le→leb 960 (part_of (g (2 * i))).target.0 (omega (arith, s.1.guarded, same))) (lt→ltb (part_of (g (2 * i))).target.0 size (omega (arith, s.1.within, same))))
+    join (leb guarded (part_of (g (2 * i))).target.0 && ltb (part_of (g (2 * i))).target.0 size) (all_in_area size (writes_from g (i + 1) k))
+    (join (leb guarded (part_of (g (2 * i))).target.0) (ltb (part_of (g (2 * i))).target.0 size) (le→leb guarded (part_of (g (2 * i))).target.0 (omega (arith, s.1.guarded, same))) (lt→ltb (part_of (g (2 * i))).target.0 size (omega (arith, s.1.within, same))))
     (in_area_lem size g n len (i + 1) k w (omega arith))
 
-pub found_in_area : (size most : ℕ) (g : ℕ → List ℕ) → ((i : ℕ) → i < 480 → Ours size most i (g i)) → T (all_in_area size (writes_in size g))
+pub found_in_area : (size most : ℕ) (g : ℕ → List ℕ) → ((i : ℕ) → i < slot_sectors → Ours size most i (g i)) → T (all_in_area size (writes_in size g))
 unfolding all_in_area
-found_in_area size most g ours = go (gathered size g 480).whole refl
+found_in_area size most g ours = go (gathered size g slot_sectors).whole refl
   where
     nothing : T (all_in_area size [])
     nothing = tt
 
-    go : (x : Option Record) → (gathered size g 480).whole ≡ x → T (all_in_area size (writes_in size g))
+    go : (x : Option Record) → (gathered size g slot_sectors).whole ≡ x → T (all_in_area size (writes_in size g))
     go (Some r) e =
         let n = r.number in
         let len = r.length in
@@ -115,39 +115,39 @@ found_in_area size most g ours = go (gathered size g 480).whole refl
         subst (λ (k : ℕ). T (all_in_area size (writes_from g 0 k))) (sym (whole-count size g n len w)) (in_area_lem size g n len 0 (len / 2) w (omega arith))
     go None e = subst (λ (ws : List Write). T (all_in_area size ws)) (sym (none-writes size g e)) nothing
 
-pub redo_few : (s : Scan) → redo_count s ≤ 240
+pub redo_few : (s : Scan) → redo_count s ≤ most_writes
 redo_few s = go s.whole
   where
-    fits : (len : ℕ) (x : Bool) → leb len 480 ≡ x → cond x (len / 2) 0 ≤ 240
-    fits len true e = omega (arith, leb-true len 480 e)
+    fits : (len : ℕ) (x : Bool) → leb len slot_sectors ≡ x → cond x (len / 2) 0 ≤ most_writes
+    fits len true e = omega (arith, leb-true len slot_sectors e)
     fits len false e = omega arith
 
-    go : (o : Option Record) → count_of o ≤ 240
+    go : (o : Option Record) → count_of o ≤ most_writes
     go None = omega arith
-    go (Some r) = fits r.length (leb r.length 480) refl
+    go (Some r) = fits r.length (leb r.length slot_sectors) refl
 
 -- both slots' contents
 abbrev pub slot_of : Device → Slot → ℕ → List ℕ
 slot_of d slot q = shown d (base slot + q)
 
-pub slot_low : (slot : Slot) (q : ℕ) → q < 480 → base slot + q < 960
+pub slot_low : (slot : Slot) (q : ℕ) → q < slot_sectors → base slot + q < guarded
 slot_low First q l = omega arith
 slot_low Second q l = omega arith
 
 -- a record lies within its slot
-pub slot_room : (slot : Slot) (s : Scan) → base slot + 2 * (0 + redo_count s) ≤ 960
+pub slot_room : (slot : Slot) (s : Scan) → base slot + 2 * (0 + redo_count s) ≤ guarded
 slot_room First s = omega (arith, redo_few s)
 slot_room Second s = omega (arith, redo_few s)
 
-pub slot_run : (size : ℕ) (d : Device) (slot : Slot) → run (scan_io size slot) d ≡ record { value = scanned size (slot_of d slot) 480; device = d }
+pub slot_run : (size : ℕ) (d : Device) (slot : Slot) → run (scan_io size slot) d ≡ record { value = scanned size (slot_of d slot) slot_sectors; device = d }
 unfolding scanned
-slot_run size d slot = scan_run size (base slot) d 0 480
+slot_run size d slot = scan_run size (base slot) d 0 slot_sectors
 
 abbrev pub settle_io : Io (Unit {0})
 settle_io = sync (answer tt)
 
 -- DOING AGAIN what two slots hold, the older first
-module _ (size most : ℕ) (d : Device) (ours : (slot : Slot) (i : ℕ) → i < 480 → Ours size most i (slot_of d slot i)) (older : Slot) where
+module _ (size most : ℕ) (d : Device) (ours : (slot : Slot) (i : ℕ) → i < slot_sectors → Ours size most i (slot_of d slot i)) (older : Slot) where
   abbrev pub redone : List Write
   redone = writes_in size (slot_of d older) ++ writes_in size (slot_of d (other older))
 
@@ -155,44 +155,44 @@ module _ (size most : ℕ) (d : Device) (ours : (slot : Slot) (i : ℕ) → i < 
   first = (run (write_all_io (writes_in size (slot_of d older))) d).device
 
   -- the second slot shows the same after the first is done
-  pub same_after : (q : ℕ) → q < 480 → slot_of first (other older) q ≡ slot_of d (other older) q
+  pub same_after : (q : ℕ) → q < slot_sectors → slot_of first (other older) q ≡ slot_of d (other older) q
   same_after q l = alike_shown (upto_other (writes_in size (slot_of d older)) d first (base (other older) + q) (below-area size (writes_in size (slot_of d older)) (base (other older) + q) (found_in_area size most (slot_of d older) (ours older)) (slot_low (other older) q l)) (all_upto (writes_in size (slot_of d older)) d))
 
-  pub one_run : run (replay_from (base older) 0 (redo_count (gathered size (slot_of d older) 480))) d ≡ run (write_all_io (writes_in size (slot_of d older))) d
-  one_run = replay_run size (base older) (slot_of d older) 0 _ d (slot_room older (gathered size (slot_of d older) 480)) (found_in_area size most (slot_of d older) (ours older)) (λ q l. refl)
+  pub one_run : run (replay_from (base older) 0 (redo_count (gathered size (slot_of d older) slot_sectors))) d ≡ run (write_all_io (writes_in size (slot_of d older))) d
+  one_run = replay_run size (base older) (slot_of d older) 0 _ d (slot_room older (gathered size (slot_of d older) slot_sectors)) (found_in_area size most (slot_of d older) (ours older)) (λ q l. refl)
 
-  two_run : run (replay_from (base (other older)) 0 (redo_count (gathered size (slot_of d (other older)) 480))) first ≡ run (write_all_io (writes_in size (slot_of d (other older)))) first
-  two_run = replay_run size (base (other older)) (slot_of d (other older)) 0 _ first (slot_room (other older) (gathered size (slot_of d (other older)) 480)) (found_in_area size most (slot_of d (other older)) (ours (other older))) (λ q l. same_after q (omega (arith, redo_few (gathered size (slot_of d (other older)) 480))))
+  two_run : run (replay_from (base (other older)) 0 (redo_count (gathered size (slot_of d (other older)) slot_sectors))) first ≡ run (write_all_io (writes_in size (slot_of d (other older)))) first
+  two_run = replay_run size (base (other older)) (slot_of d (other older)) 0 _ first (slot_room (other older) (gathered size (slot_of d (other older)) slot_sectors)) (found_in_area size most (slot_of d (other older)) (ours (other older))) (λ q l. same_after q (omega (arith, redo_few (gathered size (slot_of d (other older)) slot_sectors))))
 
   abbrev pub all_done : Device
   all_done = (run (write_all_io redone) d).device
 
   -- to the end: all writes are done, and a sync
-  pub redo_run : run (redo_io older (gathered size (slot_of d older) 480) (gathered size (slot_of d (other older)) 480)) d ≡ record { value = tt; device = synced all_done }
+  pub redo_run : run (redo_io older (gathered size (slot_of d older) slot_sectors) (gathered size (slot_of d (other older)) slot_sectors)) d ≡ record { value = tt; device = synced all_done }
   unfolding redo_io run
   redo_run =
-      run_then (replay_from (base older) 0 (redo_count (gathered size (slot_of d older) 480))) (λ _. then' (replay_from (base (other older)) 0 (redo_count (gathered size (slot_of d (other older)) 480))) (λ _. settle_io)) d
-      ∙ ap (λ (x : Ran (Unit {0})). run (then' (replay_from (base (other older)) 0 (redo_count (gathered size (slot_of d (other older)) 480))) (λ _. settle_io)) x.device) one_run
-      ∙ run_then (replay_from (base (other older)) 0 (redo_count (gathered size (slot_of d (other older)) 480))) (λ _. settle_io) first
+      run_then (replay_from (base older) 0 (redo_count (gathered size (slot_of d older) slot_sectors))) (λ _. then' (replay_from (base (other older)) 0 (redo_count (gathered size (slot_of d (other older)) slot_sectors))) (λ _. settle_io)) d
+      ∙ ap (λ (x : Ran (Unit {0})). run (then' (replay_from (base (other older)) 0 (redo_count (gathered size (slot_of d (other older)) slot_sectors))) (λ _. settle_io)) x.device) one_run
+      ∙ run_then (replay_from (base (other older)) 0 (redo_count (gathered size (slot_of d (other older)) slot_sectors))) (λ _. settle_io) first
       ∙ ap (λ (x : Ran (Unit {0})). record { value = tt; device = synced x.device }) two_run
       ∙ ap (λ (x : Ran (Unit {0})). record { value = tt; device = synced x.device }) (sym (all_append (writes_in size (slot_of d older)) (writes_in size (slot_of d (other older))) d))
 
   -- cut: some of the writes are done, or all, and synced
-  pub redo_upto : (e : Device) → Upto (redo_io older (gathered size (slot_of d older) 480) (gathered size (slot_of d (other older)) 480)) d e → Upto (write_all_io redone) d e ⊎ (e ≡ synced all_done)
+  pub redo_upto : (e : Device) → Upto (redo_io older (gathered size (slot_of d older) slot_sectors) (gathered size (slot_of d (other older)) slot_sectors)) d e → Upto (write_all_io redone) d e ⊎ (e ≡ synced all_done)
   unfolding redo_io run
   redo_upto e u =
-      elim (upto_then (replay_from (base older) 0 (redo_count (gathered size (slot_of d older) 480))) (λ _. then' (replay_from (base (other older)) 0 (redo_count (gathered size (slot_of d (other older)) 480))) (λ _. settle_io)) d e u) [
-        | inl v ↦ inl (upto_front (writes_in size (slot_of d older)) (writes_in size (slot_of d (other older))) d e (replay_upto size (base older) (slot_of d older) 0 _ d e (slot_room older (gathered size (slot_of d older) 480)) (found_in_area size most (slot_of d older) (ours older)) (λ q l. refl) v))
-        | inr v ↦ later (subst (λ (x : Ran (Unit {0})). Upto (then' (replay_from (base (other older)) 0 (redo_count (gathered size (slot_of d (other older)) 480))) (λ _. settle_io)) x.device e) one_run v)
+      elim (upto_then (replay_from (base older) 0 (redo_count (gathered size (slot_of d older) slot_sectors))) (λ _. then' (replay_from (base (other older)) 0 (redo_count (gathered size (slot_of d (other older)) slot_sectors))) (λ _. settle_io)) d e u) [
+        | inl v ↦ inl (upto_front (writes_in size (slot_of d older)) (writes_in size (slot_of d (other older))) d e (replay_upto size (base older) (slot_of d older) 0 _ d e (slot_room older (gathered size (slot_of d older) slot_sectors)) (found_in_area size most (slot_of d older) (ours older)) (λ q l. refl) v))
+        | inr v ↦ later (subst (λ (x : Ran (Unit {0})). Upto (then' (replay_from (base (other older)) 0 (redo_count (gathered size (slot_of d (other older)) slot_sectors))) (λ _. settle_io)) x.device e) one_run v)
       ]
     where
       ended : (x f : Device) → x ≡ all_done → Upto settle_io x f → Upto (write_all_io redone) d f ⊎ (f ≡ synced all_done)
       ended x f q here = inl (subst (λ (y : Device). Upto (write_all_io redone) d y) (sym q) (all_upto redone d))
       ended x f q (syncs here) = inr (ap synced q)
 
-      later : Upto (then' (replay_from (base (other older)) 0 (redo_count (gathered size (slot_of d (other older)) 480))) (λ _. settle_io)) first e → Upto (write_all_io redone) d e ⊎ (e ≡ synced all_done)
+      later : Upto (then' (replay_from (base (other older)) 0 (redo_count (gathered size (slot_of d (other older)) slot_sectors))) (λ _. settle_io)) first e → Upto (write_all_io redone) d e ⊎ (e ≡ synced all_done)
       later v =
-          elim (upto_then (replay_from (base (other older)) 0 (redo_count (gathered size (slot_of d (other older)) 480))) (λ _. settle_io) first e v) [
-            | inl z ↦ inl (upto_behind (writes_in size (slot_of d older)) (writes_in size (slot_of d (other older))) d e (replay_upto size (base (other older)) (slot_of d (other older)) 0 _ first e (slot_room (other older) (gathered size (slot_of d (other older)) 480)) (found_in_area size most (slot_of d (other older)) (ours (other older))) (λ q l. same_after q (omega (arith, redo_few (gathered size (slot_of d (other older)) 480)))) z))
-            | inr z ↦ ended (run (replay_from (base (other older)) 0 (redo_count (gathered size (slot_of d (other older)) 480))) first).device e (ap (λ (x : Ran (Unit {0})). x.device) (two_run ∙ sym (all_append (writes_in size (slot_of d older)) (writes_in size (slot_of d (other older))) d))) z
+          elim (upto_then (replay_from (base (other older)) 0 (redo_count (gathered size (slot_of d (other older)) slot_sectors))) (λ _. settle_io) first e v) [
+            | inl z ↦ inl (upto_behind (writes_in size (slot_of d older)) (writes_in size (slot_of d (other older))) d e (replay_upto size (base (other older)) (slot_of d (other older)) 0 _ first e (slot_room (other older) (gathered size (slot_of d (other older)) slot_sectors)) (found_in_area size most (slot_of d (other older)) (ours (other older))) (λ q l. same_after q (omega (arith, redo_few (gathered size (slot_of d (other older)) slot_sectors)))) z))
+            | inr z ↦ ended (run (replay_from (base (other older)) 0 (redo_count (gathered size (slot_of d (other older)) slot_sectors))) first).device e (ap (λ (x : Ran (Unit {0})). x.device) (two_run ∙ sym (all_append (writes_in size (slot_of d older)) (writes_in size (slot_of d (other older))) d))) z
           ]

@@ -2,7 +2,7 @@
 use Rattle.std.proofs.Common.{◌≡◌, ℕ, zero, suc, ◌<◌, ◌≤◌, Bool, true, false, cond, ◌&&◌, ◌||◌, eqb, ltb, leb, ◌≢◌, ◌⊎◌, List, sym, refl, ap, ◌∙◌, subst, inl, inr, arith, ltb-false, ltb-true, eq-eqb, ne_eqb, eqb-true, le-leb, leb-false, leb-true, Some, None, Option, Ok, Err}
 use borrow.Author.Tests.{eqb-false}
 use Rattle.std.proofs.lemmas.Bool.{and_parts, cond_both}
-use Rattle.journal.specs.Format.{Found, found, foreign}
+use Rattle.journal.specs.Format.{slot_sectors, Found, found, foreign}
 use Rattle.journal.specs.Scans.{Scanned, scan_start, higher, still, scan_part, scan_blank, scan_found, scan_on, scanned}
 use Rattle.journal.specs.declared.part.Part.{Part}
 use Rattle.journal.specs.declared.part.Foreign.{Foreign}
@@ -21,7 +21,7 @@ Has size g n len i = (p : Part) × (found size i (g i) ≡ Ok (Some p)) × (p.nu
 -- a record that is all there
 pub record Whole (size : ℕ) (g : ℕ → List ℕ) (n len : ℕ) : Type 0 where
   pub some : 0 < len
-  pub short : len ≤ 480
+  pub short : len ≤ slot_sectors
   pub each : (i : ℕ) → i < len → Has size g n len i
 
 clash : {A : Type 0} {p : Part} → ◌≡◌ {A = Found} (Ok None) (Ok (Some p)) → A
@@ -138,7 +138,7 @@ module _ (size : ℕ) (g : ℕ → List ℕ) where
   -- what was found so far, where the scan says that it is whole
   pub record SoFar (k : ℕ) (r : Record) : Type 0 where
     pub some : 0 < r.length
-    pub short : r.length ≤ 480
+    pub short : r.length ≤ slot_sectors
     pub each : (i : ℕ) → i < k → i < r.length → Has size g r.number r.length i
 
   so_blank : (k : ℕ) (s : Scan) (r : Record) → ((r : Record) → s.whole ≡ Some r → SoFar k r) → (scan_blank k s).whole ≡ Some r → SoFar (suc k) r
@@ -191,8 +191,8 @@ module _ (size : ℕ) (g : ℕ → List ℕ) where
       go (inr q) before = let (p, e, l) = q in so_part k p (gathered size g k) r e before (subst (λ (s : Scan). s.whole ≡ Some r) (next-part k p e) h)
 
   -- a record that is found is all there
-  pub whole_found : (most : ℕ) → ((i : ℕ) → i < 480 → Ours size most i (g i)) → (r : Record) → (gathered size g 480).whole ≡ Some r → Whole size g r.number r.length
-  whole_found most o r h = let f = so_far most 480 r o h in record { some = f.some; short = f.short; each = λ i l. f.each i (omega (arith, f.short)) l }
+  pub whole_found : (most : ℕ) → ((i : ℕ) → i < slot_sectors → Ours size most i (g i)) → (r : Record) → (gathered size g slot_sectors).whole ≡ Some r → Whole size g r.number r.length
+  whole_found most o r h = let f = so_far most slot_sectors r o h in record { some = f.some; short = f.short; each = λ i l. f.each i (omega (arith, f.short)) l }
 
   -- what a scan has seen: the highest number
   pub record Seen (most k : ℕ) (s : Scan) : Type 0 where

@@ -19,9 +19,9 @@ pub record Sound (size i : ℕ) (p : Part) : Type 0 where
   pub below : p.number < 4611686018427387904
   pub index : p.index ≡ i
   pub inside : i < p.length
-  pub short : p.length ≤ 480
+  pub short : p.length ≤ slot_sectors
   pub even : p.length % 2 ≡ 0
-  pub guarded : 960 ≤ p.target.0
+  pub guarded : guarded ≤ p.target.0
   pub within : p.target.0 < size
 
 four : (a b c d : Bool) → a && b && c && d ≡ true → (a ≡ true) × (b ≡ true) × (c ≡ true) × (d ≡ true)

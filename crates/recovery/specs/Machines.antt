@@ -1,7 +1,8 @@
 -- The journal as a machine, and the judge that it keeps to: an array of sectors.
 -- Assumes nothing.
-use Rattle.std.specs.Prelude.{◌≡◌, ℕ, suc, ◌≤◌, Bool, true, false, cond, ◌&&◌, T, List, [], ◌∷◌, length, Ok, Err, ◌==◌}
+use Rattle.std.specs.Prelude.{◌≡◌, ℕ, suc, ◌<◌, ◌≤◌, Bool, true, false, cond, ◌&&◌, T, List, [], ◌∷◌, length, Ok, Err, ◌==◌}
 use Rattle.disks.specs.Device.{Io, answer, then', zeros, all_bytes, Machine, Judge, Keeps, Within}
+use Rattle.journal.specs.Format.{guarded}
 use Rattle.journal.specs.Programs.{Opened, Outcome, Got, refusal, foreign_refusal, in_area, allowed, get_io, put_io, open_io}
 use Rattle.journal.specs.declared.Place.{Place}
 use Rattle.journal.specs.declared.state.Write.{Write}
@@ -38,6 +39,7 @@ abbrev pub journal : Machine Call Reply
 journal = record { Mem = Opened; opens = open_io; does = call_io }
 
 -- THE JUDGE: an array of sectors. steps counts calls and cuts; for want of numbers a call is refused only after 2^56 of them.
+-- A device without room for the journal is refused.
 pub record Array : Type 0 where
   pub sector : ℕ → List ℕ
   pub steps : ℕ
@@ -59,6 +61,7 @@ pub data Answers (size : ℕ) : Call → Array → Reply → Array → Type 0 wh
   put : (ws : List Write) (a : Array) → T (whole_sectors ws && allowed size ws) → Answers size (Put ws) a Done' (put_into ws a)
   not_put : (ws : List Write) (a : Array) → whole_sectors ws && allowed size ws ≡ false → Answers size (Put ws) a (No 1) (later a)
   used-up : (ws : List Write) (a : Array) → T (whole_sectors ws && allowed size ws) → 72057594037927936 ≤ a.steps → Answers size (Put ws) a (No 8) (later a)
+  too_small : (c : Call) (a : Array) → size < guarded → Answers size c a (No 16) (later a)
 
 -- power failing changes nothing
 pub data Falls : Array → Array → Type 0 where
