@@ -1,0 +1,32 @@
+//! `copies-explore walks N SEED`, `copies-explore all`, `copies-explore mistakes`, `copies-explore settle N SEED`.
+use second_copies::history::Check;
+use second_copies::mistakes::Mistake;
+use second_copies::walks::{STEPS, walks};
+use std::time::Instant;
+
+fn main() {
+    let words: Vec<String> = std::env::args().skip(1).collect();
+    let number = |i: usize, or: u64| words.get(i).map_or(or, |w| w.parse().unwrap_or(or));
+    match words.first().map(String::as_str) {
+        Some("walks") => {
+            let start = Instant::now();
+            let r = walks(number(2, 1), number(1, 1000) as usize, STEPS, None, Check::ALL);
+            println!("{r:?} {:?}", start.elapsed());
+        }
+        Some("mistakes") => {
+            for m in Mistake::ALL {
+                if words.len() > 2 && format!("{m:?}") != words[2] {
+                    continue;
+                }
+                for checks in [Check::ALL, Check::PROMISED] {
+                    let start = Instant::now();
+                    match walks(1, number(1, 3000) as usize, STEPS, Some(*m), checks) {
+                        Ok(_) => println!("{m:?}: none {:?}", start.elapsed()),
+                        Err((seed, f)) => println!("{m:?}: {seed} {:?} {:?}", f.check, start.elapsed()),
+                    }
+                }
+            }
+        }
+        _ => {}
+    }
+}
