@@ -27,6 +27,18 @@ fn main() {
                 }
             }
         }
+        Some("show") => {
+            let m = Mistake::ALL.iter().find(|m| format!("{m:?}") == words[1]).copied();
+            let checks = if words.len() > 3 { Check::PROMISED } else { Check::ALL };
+            let (walk, result) = second_copies::walks::walk(number(2, 1), STEPS, m, checks);
+            println!("{result:?} {:?}", walk.world.rules);
+            if let Some((f, events)) = second_copies::walks::shortened(&walk.world.rules, &walk.events, checks) {
+                for e in &events {
+                    println!("{e:?}");
+                }
+                println!("{f:?}");
+            }
+        }
         _ => {}
     }
 }

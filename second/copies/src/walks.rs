@@ -6,6 +6,8 @@ use crate::rules::Rules;
 use crate::service::{Call, GROUP, KEYS};
 use crate::world::{Cut, Event, Stand, Tally, World};
 use random::Random;
+use std::sync::atomic::{AtomicU64, Ordering::Relaxed};
+use std::thread::{available_parallelism, scope};
 
 /// How many events a walk has.
 pub const STEPS: usize = 300;
@@ -34,12 +36,37 @@ struct Profile {
     deaf: usize,
 }
 
+/// After how many events another profile is chosen.
+const PHASE: usize = 50;
+
 fn one_of(random: &mut Random, list: &[usize]) -> usize {
     list[random.below(list.len())]
 }
 
 impl Profile {
     fn new(random: &mut Random) -> Profile {
+        if random.below(2) == 0 { Profile::calm(random) } else { Profile::wild(random) }
+    }
+
+    /// Packets come mostly in order, nothing falls.
+    fn calm(random: &mut Random) -> Profile {
+        Profile {
+            fall: 0,
+            rise: 100,
+            ask: one_of(random, &[60, 120]),
+            tick: one_of(random, &[15, 40]),
+            cut: 0,
+            ordered: 960,
+            new: 30,
+            recent: 5,
+            aimed: one_of(random, &[0, 50]),
+            gathered: 0,
+            emptying: one_of(random, &[2, 10, 18]),
+            deaf: 60,
+        }
+    }
+
+    fn wild(random: &mut Random) -> Profile {
         Profile {
             fall: one_of(random, &[0, 4, 10, 25]),
             rise: one_of(random, &[20, 60, 200]),
@@ -88,7 +115,10 @@ impl Walk {
         for i in 0..HOUSES {
             self.does(Event::Rise(i))?;
         }
-        for _ in 0..steps {
+        for step in 0..steps {
+            if step % PHASE == 0 {
+                self.profile = Profile::new(&mut self.random);
+            }
             if let Some(event) = self.picks() {
                 self.does(event)?;
             }
@@ -115,7 +145,7 @@ impl Walk {
 
     fn picks(&mut self) -> Option<Event> {
         if self.random.below(self.profile.deaf) == 0 {
-            self.deaf = self.random.below(2 * HOUSES);
+            self.deaf = self.random.below(5);
         }
         let off: Vec<usize> = (0..HOUSES).filter(|i| !self.world.houses[*i].is_on()).collect();
         if !off.is_empty() && self.random.below(1000) < self.profile.rise {
@@ -148,10 +178,17 @@ impl Walk {
         let call = match self.random.below(40) {
             0 => Call::Drop { group: key / GROUP as u64 },
             1..=5 => Call::Read { key },
-            n if n < 6 + self.profile.emptying => Call::Write { key, block: 0 },
+            n if n < 6 + self.profile.emptying => Call::Write { key: self.full_key().unwrap_or(key), block: 0 },
             _ => Call::Write { key, block: 1 + self.random.below(250) as u8 },
         };
         Event::Ask(house, self.world.calls, call, self.cut())
+    }
+
+    /// A key whose block isn't empty at some copy.
+    fn full_key(&mut self) -> Option<u64> {
+        let kept = &self.world.houses[self.random.below(3)].disk().kept;
+        let full: Vec<u64> = (0..KEYS as u64).filter(|key| kept.look(*key) != 0).collect();
+        if full.is_empty() { None } else { Some(full[self.random.below(full.len())]) }
     }
 
     /// One of all packets ever sent, mostly new ones.
@@ -271,14 +308,98 @@ pub fn walk(seed: u64, steps: usize, mistake: Option<Mistake>, checks: &[Check])
     (walk, result)
 }
 
-/// Plays so many walks; a fault, with its seed, or what happened and the most steps it took to settle.
-pub fn walks(seed: u64, n: usize, steps: usize, mistake: Option<Mistake>, checks: &[Check]) -> Result<(Tally, usize), (u64, Fault)> {
-    let mut tally = Tally::default();
-    let mut most = 0;
-    for seed in seed..seed + n as u64 {
-        let (walk, result) = walk(seed, steps, mistake, checks);
-        most = most.max(result.map_err(|f| (seed, f))?);
-        tally.add(walk.world.tally);
+/// What walks came to: how many there were, what happened, and the most steps it took to settle.
+#[derive(Clone, Copy, Debug, Default)]
+pub struct Walked {
+    pub walks: usize,
+    pub tally: Tally,
+    pub most_steps: usize,
+}
+
+/// The walks from a seed on, as many as wanted, on all processors; or the first seed with a fault.
+pub fn walks(seed: u64, n: usize, steps: usize, mistake: Option<Mistake>, checks: &[Check]) -> Result<Walked, (u64, Fault)> {
+    let next = AtomicU64::new(seed);
+    let end = AtomicU64::new(seed + n as u64);
+    let play = || {
+        let mut walked = Walked::default();
+        loop {
+            let seed = next.fetch_add(1, Relaxed);
+            if seed >= end.load(Relaxed) {
+                return Ok(walked);
+            }
+            let (walk, result) = walk(seed, steps, mistake, checks);
+            match result {
+                Ok(most) => walked.most_steps = walked.most_steps.max(most),
+                Err(f) => {
+                    end.fetch_min(seed, Relaxed);
+                    return Err((seed, f));
+                }
+            }
+            walked.walks += 1;
+            walked.tally.add(walk.world.tally);
+        }
+    };
+    let threads = available_parallelism().map_or(1, |n| n.get());
+    let results: Vec<_> = scope(|s| {
+        let playing: Vec<_> = (0..threads).map(|_| s.spawn(play)).collect();
+        playing.into_iter().map(|thread| thread.join().expect("a walk panicked")).collect()
+    });
+    let mut all = Walked::default();
+    let mut first: Option<(u64, Fault)> = None;
+    for result in results {
+        match result {
+            Ok(walked) => {
+                all.walks += walked.walks;
+                all.tally.add(walked.tally);
+                all.most_steps = all.most_steps.max(walked.most_steps);
+            }
+            Err(found) if first.as_ref().is_none_or(|(seed, _)| found.0 < *seed) => first = Some(found),
+            Err(_) => {}
+        }
     }
-    Ok((tally, most))
+    first.map_or(Ok(all), Err)
+}
+
+/// Plays events in a new world, as far as they can happen; the fault that it came to, and the events that happened until then.
+pub fn replays(rules: &Rules, events: &[Event], checks: &[Check]) -> Option<(Fault, Vec<Event>)> {
+    let mut world = World::new(rules.clone(), checks);
+    let mut happened = Vec::new();
+    for event in events {
+        if let Event::Deliver(packet, _) = event
+            && !world.wire.contains(packet)
+        {
+            continue;
+        }
+        match world.step(event) {
+            Ok(false) => {}
+            Ok(true) => happened.push(event.clone()),
+            Err(f) => {
+                happened.push(event.clone());
+                return Some((f, happened));
+            }
+        }
+    }
+    None
+}
+
+/// Leaves out what isn't needed to come to a fault of the same check.
+pub fn shortened(rules: &Rules, events: &[Event], checks: &[Check]) -> Option<(Fault, Vec<Event>)> {
+    let (mut found, mut events) = replays(rules, events, checks)?;
+    let mut length = events.len().div_ceil(2);
+    loop {
+        let mut at = 0;
+        let before = events.len();
+        while at < events.len() {
+            let mut fewer = events.clone();
+            fewer.drain(at..(at + length).min(events.len()));
+            match replays(rules, &fewer, checks) {
+                Some((f, happened)) if f.check == found.check => (found, events) = (f, happened),
+                _ => at += length,
+            }
+        }
+        if length == 1 && events.len() == before {
+            return Some((found, events));
+        }
+        length = length.div_ceil(2);
+    }
 }
