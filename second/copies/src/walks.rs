@@ -54,7 +54,7 @@ impl Profile {
             fall: 0,
             rise: 100,
             ask: one_of(random, &[60, 120]),
-            tick: one_of(random, &[15, 40]),
+            tick: one_of(random, &[40, 80]),
             cut: 0,
             ordered: 960,
             new: 30,
@@ -71,7 +71,7 @@ impl Profile {
             fall: one_of(random, &[0, 4, 10, 25]),
             rise: one_of(random, &[20, 60, 200]),
             ask: one_of(random, &[40, 80, 120, 200]),
-            tick: one_of(random, &[20, 50, 100, 180]),
+            tick: one_of(random, &[50, 100, 180]),
             cut: one_of(random, &[0, 5, 20]),
             ordered: one_of(random, &[200, 500, 800]),
             new: one_of(random, &[50, 200, 400]),
@@ -85,7 +85,7 @@ impl Profile {
 }
 
 pub fn rules(random: &mut Random, mistake: Option<Mistake>) -> Rules {
-    let capacity = one_of(random, &[2, 3, 4, 6, 9]);
+    let capacity = one_of(random, &[1, 2, 2, 3, 4, 8]);
     let limit = capacity + one_of(random, &[0, 0, 1, capacity]);
     Rules { mistake, patience: 2, capacity, limit, portion: one_of(random, &[1, 1, 2, 3]) }
 }
