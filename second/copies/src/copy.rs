@@ -450,7 +450,8 @@ impl Turn<'_> {
 
     /// Who heard no leader for so many ticks takes the next ballot; copies wait differently long.
     fn elect(&mut self) {
-        if self.memory.quiet + 1 < self.rules.patience + self.memory.me as u64 {
+        let patience = self.rules.patience.map_or(1, |least| least + self.memory.me as u64);
+        if self.memory.quiet + 1 < patience {
             self.memory.quiet += 1;
         } else {
             self.raised(next_ballot(self.memory.me, self.agreeing.promised));

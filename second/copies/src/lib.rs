@@ -1,4 +1,5 @@
 //! Copies as docs/COPIES.md has them, written a second time and apart from the proved code, and explored.
+pub mod all;
 pub mod copy;
 pub mod history;
 pub mod house;

@@ -4,8 +4,8 @@ use crate::mistakes::Mistake;
 #[derive(Clone, Debug)]
 pub struct Rules {
     pub mistake: Option<Mistake>,
-    /// After how many ticks without a leader copy m takes the next ballot: m and so many.
-    pub patience: u64,
+    /// After how many ticks without a leader copy m takes the next ballot: m and so many; none: each at once.
+    pub patience: Option<u64>,
     /// The service holds so many blocks that aren't empty; with more entries, a keeper forgets markers.
     pub capacity: usize,
     /// A part that would leave more entries finds no place.
@@ -15,10 +15,6 @@ pub struct Rules {
 }
 
 impl Rules {
-    pub fn new(mistake: Option<Mistake>) -> Rules {
-        Rules { mistake, patience: 2, capacity: 4, limit: 6, portion: 2 }
-    }
-
     pub fn has(&self, mistake: Mistake) -> bool {
         self.mistake == Some(mistake)
     }

@@ -87,7 +87,7 @@ impl Profile {
 pub fn rules(random: &mut Random, mistake: Option<Mistake>) -> Rules {
     let capacity = one_of(random, &[1, 2, 2, 3, 4, 8]);
     let limit = capacity + one_of(random, &[0, 0, 1, capacity]);
-    Rules { mistake, patience: 2, capacity, limit, portion: one_of(random, &[1, 1, 2, 3]) }
+    Rules { mistake, patience: Some(2), capacity, limit, portion: one_of(random, &[1, 1, 2, 3]) }
 }
 
 /// A walk under way: the world, packets not yet delivered, and a house that hears little for a while.
