@@ -17,6 +17,8 @@ pub struct Bounds {
     pub ballots: u8,
     pub calls: u8,
     pub falls: u8,
+    /// no version is above it
+    pub places: u64,
     /// bundles and replies go over the wire, too; or else calls are made only at who leads
     pub bundles: bool,
     pub states: usize,
@@ -113,6 +115,7 @@ enum Happens {
 }
 
 /// What an event leaves at a house.
+#[derive(Default)]
 struct Outcome {
     house: u32,
     /// the house, if it fell after the event and came up again
@@ -169,6 +172,7 @@ struct Explorer {
     steps: Vec<Step>,
     counted: usize,
     bundles: bool,
+    places: u64,
 }
 
 fn start(rules: &Rules, me: usize) -> (Memory, Disk) {
@@ -178,7 +182,7 @@ fn start(rules: &Rules, me: usize) -> (Memory, Disk) {
 
 /// Goes through all states within the bounds; a fault is told with the events that came to it.
 pub fn explore(mistake: Option<Mistake>, checks: &[Check], bounds: Bounds) -> Result<Explored, (Fault, Vec<String>, usize)> {
-    let rules = Rules { mistake, patience: None, capacity: 2, limit: 2, portion: 1 };
+    let rules = Rules { mistake, patience: None, capacity: 2, limit: 2, forgets: false, portion: 1 };
     let mut explorer = Explorer::new(rules, checks, bounds);
     let mut explored = Explored { whole: true, ..Explored::default() };
     let mut at = 0;
@@ -225,6 +229,7 @@ impl Explorer {
             steps: Vec::new(),
             counted: 0,
             bundles: bounds.bundles,
+            places: bounds.places,
             rules,
         };
         let houses = [0, 1, 2].map(|me| explorer.houses.number(start(&explorer.rules, me)));
@@ -320,6 +325,11 @@ impl Explorer {
             Happens::Tick => In::Tick,
         };
         let ended = acts(&self.rules, &event, memory, disk);
+        if ended.stored.agreeing.version > self.places {
+            // a house may let any event pass
+            let fallen = self.fallen(house);
+            return self.notes(house, happens, Outcome { house, fallen, ..Outcome::default() });
+        }
         let mut sent = Vec::new();
         let mut told = Vec::new();
         let mut result = self.watched(holds(disk, &ended.stored));
@@ -349,7 +359,11 @@ impl Explorer {
         };
         let fallen = self.houses.number((fallen_memory, fallen_disk));
         let house_after = self.houses.number((ended.memory, ended.stored));
-        let outcome = Rc::new(Outcome { house: house_after, fallen, elects, applied, sent, told, fault: result.err() });
+        self.notes(house, happens, Outcome { house: house_after, fallen, elects, applied, sent, told, fault: result.err() })
+    }
+
+    fn notes(&mut self, house: u32, happens: Happens, outcome: Outcome) -> Rc<Outcome> {
+        let outcome = Rc::new(outcome);
         self.outcomes.insert((house, happens), outcome.clone());
         outcome
     }

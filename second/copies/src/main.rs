@@ -30,7 +30,7 @@ fn main() {
         Some("all") => {
             let m = words.get(5).and_then(|w| Mistake::ALL.iter().find(|m| format!("{m:?}") == *w)).copied();
             let checks = if words.len() > 6 { Check::PROMISED } else { Check::ALL };
-            let bounds = second_copies::all::Bounds { ballots: number(1, 2) as u8, calls: number(2, 1) as u8, falls: number(3, 0) as u8 % 10, bundles: number(3, 0) >= 10, states: number(4, 3_000_000) as usize };
+            let bounds = second_copies::all::Bounds { ballots: number(1, 2) as u8, calls: number(2, 1) as u8 % 10, places: match number(2, 1) / 10 { 0 => 99, n => n }, falls: number(3, 0) as u8 % 10, bundles: number(3, 0) >= 10, states: number(4, 3_000_000) as usize };
             let start = Instant::now();
             match second_copies::all::explore(m, checks, bounds) {
                 Ok(e) => println!("{bounds:?} {e:?} {:?}", start.elapsed()),

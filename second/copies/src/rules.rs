@@ -10,6 +10,8 @@ pub struct Rules {
     pub capacity: usize,
     /// A part that would leave more entries finds no place.
     pub limit: usize,
+    /// Whether markers are forgotten for a part, too.
+    pub forgets: bool,
     /// So many blocks go into a packet.
     pub portion: usize,
 }

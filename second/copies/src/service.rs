@@ -119,7 +119,7 @@ impl Kept {
         if let Some(Change { key, block }) = change {
             place(&mut entries, Stamped { key, stamp: version, block });
         }
-        forgetting(rules, rest, entries, self.floor)
+        forgetting(rules, rest, rules.capacity, entries, self.floor)
     }
 
     /// The blocks from a key on with a stamp above the base, or all, as many as go into one packet.
@@ -142,7 +142,8 @@ impl Kept {
             place(&mut entries, *block);
         }
         let floor = if rules.has(Mistake::FloorNotTaken) { self.floor } else { self.floor.max(floor) };
-        let kept = forgetting(rules, rest, entries, floor);
+        let room = if rules.forgets { rules.capacity } else { usize::MAX };
+        let kept = forgetting(rules, rest, room, entries, floor);
         (kept.entries.len() <= rules.limit).then_some(kept)
     }
 }
@@ -155,9 +156,9 @@ fn place(entries: &mut Vec<Stamped>, entry: Stamped) {
 }
 
 /// What is gone is forgotten, and the oldest markers, where there are too many entries; the floor rises with them.
-fn forgetting(rules: &Rules, rest: &Rest, mut entries: Vec<Stamped>, mut floor: u64) -> Kept {
+fn forgetting(rules: &Rules, rest: &Rest, room: usize, mut entries: Vec<Stamped>, mut floor: u64) -> Kept {
     entries.retain(|e| !rest.gone(e.key));
-    while entries.len() > rules.capacity {
+    while entries.len() > room {
         let markers = entries.iter().enumerate().filter(|(_, e)| e.block == 0);
         let Some((i, stamp)) = markers.map(|(i, e)| (i, e.stamp)).min_by_key(|(_, stamp)| *stamp) else { break };
         entries.remove(i);

@@ -45,7 +45,17 @@ fn one_of(random: &mut Random, list: &[usize]) -> usize {
 
 impl Profile {
     fn new(random: &mut Random) -> Profile {
-        if random.below(2) == 0 { Profile::calm(random) } else { Profile::wild(random) }
+        match random.below(4) {
+            0 => Profile::wild(random),
+            1 => Profile::duel(random),
+            2 => Profile::calm(random),
+            _ => Profile::apart(random),
+        }
+    }
+
+    /// One hears little all the while, the others do many calls.
+    fn apart(random: &mut Random) -> Profile {
+        Profile { ask: one_of(random, &[120, 200]), deaf: 1000, emptying: 18, ..Profile::calm(random) }
     }
 
     /// Packets come mostly in order, nothing falls.
@@ -63,6 +73,24 @@ impl Profile {
             gathered: 0,
             emptying: one_of(random, &[2, 10, 18]),
             deaf: 60,
+        }
+    }
+
+    /// Many ballots are taken, packets come in any order.
+    fn duel(random: &mut Random) -> Profile {
+        Profile {
+            fall: 0,
+            rise: 200,
+            ask: 60,
+            tick: one_of(random, &[100, 200]),
+            cut: 0,
+            ordered: one_of(random, &[0, 300]),
+            new: 650,
+            recent: 20,
+            aimed: one_of(random, &[0, 100]),
+            gathered: 0,
+            emptying: 10,
+            deaf: 15,
         }
     }
 
@@ -85,9 +113,9 @@ impl Profile {
 }
 
 pub fn rules(random: &mut Random, mistake: Option<Mistake>) -> Rules {
-    let capacity = one_of(random, &[1, 2, 2, 3, 4, 8]);
-    let limit = capacity + one_of(random, &[0, 0, 1, capacity]);
-    Rules { mistake, patience: Some(2), capacity, limit, portion: one_of(random, &[1, 1, 2, 3]) }
+    let capacity = one_of(random, &[1, 1, 2, 2, 3, 4, 8]);
+    let limit = capacity + one_of(random, &[0, 0, 0, 1, capacity]);
+    Rules { mistake, patience: Some(2), capacity, limit, forgets: random.below(2) == 0, portion: one_of(random, &[1, 1, 2, 3]) }
 }
 
 /// A walk under way: the world, packets not yet delivered, and a house that hears little for a while.
@@ -118,6 +146,7 @@ impl Walk {
         for step in 0..steps {
             if step % PHASE == 0 {
                 self.profile = Profile::new(&mut self.random);
+                self.deaf = self.random.below(5);
             }
             if let Some(event) = self.picks() {
                 self.does(event)?;
@@ -175,10 +204,13 @@ impl Walk {
     fn asks(&mut self, house: usize) -> Event {
         let house = if self.random.below(1000) < self.profile.gathered { 3 } else { house };
         let key = self.random.below(KEYS) as u64;
-        let call = match self.random.below(40) {
+        let held: usize = self.world.houses[0].disk().rest.held.iter().map(|n| usize::from(*n)).sum();
+        // where no block has place, one is often emptied
+        let at_least = if held >= self.world.rules.capacity && self.random.below(2) == 0 { 6 } else { 0 };
+        let call = match at_least + self.random.below(40 - at_least) {
+            n if n < 6 + self.profile.emptying + 2 * at_least && n >= 6 => Call::Write { key: self.full_key().unwrap_or(key), block: 0 },
             0 => Call::Drop { group: key / GROUP as u64 },
             1..=5 => Call::Read { key },
-            n if n < 6 + self.profile.emptying => Call::Write { key: self.full_key().unwrap_or(key), block: 0 },
             _ => Call::Write { key, block: 1 + self.random.below(250) as u8 },
         };
         Event::Ask(house, self.world.calls, call, self.cut())
@@ -231,6 +263,15 @@ impl Walk {
         }
         let index = self.random.below(self.world.wire.len());
         (self.world.wire[index].to == copy).then_some(index)
+    }
+
+    /// A house to be out: often the copy that is furthest, where another recovers.
+    fn out(&mut self) -> usize {
+        let copies: Vec<_> = self.world.houses[..3].iter().map(|house| house.disk().agreeing.clone()).collect();
+        if copies.iter().any(|a| a.recovery != Recovery::Level) && self.random.below(2) == 0 {
+            return (0..3).max_by_key(|i| copies[*i].version).unwrap_or(0);
+        }
+        self.random.below(HOUSES)
     }
 
     /// With one house out: the others rise, their clocks tick in turn, and each packet that they send is delivered, until all calls
@@ -303,7 +344,8 @@ pub fn walk(seed: u64, steps: usize, mistake: Option<Mistake>, checks: &[Check])
     let mut walk = Walk::new(seed, mistake, checks);
     let mut result = walk.run(steps).map(|()| 0);
     if result.is_ok() && checks.contains(&Check::Settles) {
-        result = walk.settles(seed as usize % HOUSES, seed.is_multiple_of(3));
+        let out = walk.out();
+        result = walk.settles(out, seed.is_multiple_of(3));
     }
     (walk, result)
 }
