@@ -24,6 +24,31 @@ pub struct Bounds {
     pub states: usize,
 }
 
+const fn bounds(ballots: u8, calls: u8, falls: u8, places: u64, bundles: bool) -> Bounds {
+    Bounds { ballots, calls, falls, places, bundles, states: usize::MAX }
+}
+
+/// In seconds.
+pub const SHORT: &[Bounds] = &[bounds(1, 2, 0, 9, false), bounds(2, 1, 0, 9, false), bounds(1, 1, 0, 9, true)];
+
+/// In a minute.
+pub const LONG: &[Bounds] = &[
+    bounds(1, 2, 1, 9, false),
+    bounds(2, 1, 1, 9, false),
+    bounds(2, 2, 1, 1, false),
+    bounds(2, 3, 0, 1, false),
+    bounds(3, 1, 0, 9, false),
+    bounds(1, 1, 1, 9, true),
+    bounds(2, 1, 0, 9, true),
+];
+
+/// Two ballots, two calls, two places: some minutes.
+pub const LONGEST: &[Bounds] = &[bounds(2, 2, 0, 9, false)];
+
+/// Bounds within which mistakes are looked for.
+pub const LOOKS: &[Bounds] =
+    &[bounds(2, 2, 0, 1, false), bounds(1, 2, 1, 9, false), bounds(2, 1, 1, 9, false), bounds(1, 1, 1, 9, true)];
+
 /// What was gone through. Whole: nothing within the bounds was left out.
 #[derive(Clone, Copy, Debug, Default)]
 pub struct Explored {

@@ -15,6 +15,11 @@ macro_rules! mistakes {
     };
 }
 
+impl Mistake {
+    /// No walk and no exploration finds these: with three copies the other rules keep what they are to keep.
+    pub const UNSEEN: &[Mistake] = &[Mistake::LeadsAgain, Mistake::LastKept, Mistake::PromiseKept, Mistake::BaseKept];
+}
+
 mistakes! {
     AcceptsBelow: "accepts below its promise",
     IgnoresTheirs: "leads without looking at the other's proposal",

@@ -350,6 +350,19 @@ pub fn walk(seed: u64, steps: usize, mistake: Option<Mistake>, checks: &[Check])
     (walk, result)
 }
 
+/// Walks of any length up to twice the usual, and how many steps it took to settle at their ends: the most, and all.
+pub fn settle(seed: u64, n: usize) -> Result<(usize, usize), (u64, Fault)> {
+    let (mut most, mut all) = (0, 0);
+    for seed in seed..seed + n as u64 {
+        let steps = Random::new(seed).below(2 * STEPS);
+        let (_, result) = walk(seed, steps, None, Check::ALL);
+        let taken = result.map_err(|f| (seed, f))?;
+        most = most.max(taken);
+        all += taken;
+    }
+    Ok((most, all))
+}
+
 /// What walks came to: how many there were, what happened, and the most steps it took to settle.
 #[derive(Clone, Copy, Debug, Default)]
 pub struct Walked {
