@@ -1,5 +1,7 @@
 //! All orders of events of three copies, within bounds: every packet that was ever sent may come at any time and again, power may fail
-//! before and after each event.
+//! before and after each event. What only sends is done at once, since who has been sent more can do all that who was sent less can.
+//! Where bundles and replies aren't on the wire, each status that a copy ever stored may come to the others, whether it was sent or not.
+//! A tick at a level copy that doesn't lead takes a ballot at once. States are told apart by hashes of 64 bits.
 use crate::copy::Memory;
 use crate::history::{Check, Fault, History, fault, holds};
 use crate::house::{Did, Disk, In, Out, acts, wakes};
@@ -19,7 +21,7 @@ pub struct Bounds {
     pub falls: u8,
     /// no version is above it
     pub places: u64,
-    /// bundles and replies go over the wire, too; or else calls are made only at who leads
+    /// bundles and replies go over the wire, too; or else a copy proposes only calls of its own
     pub bundles: bool,
     pub states: usize,
 }
@@ -186,7 +188,7 @@ struct Explorer {
     packets: Numbered<(usize, Message)>,
     inboxes: Numbered<Vec<u32>>,
     sequences: Numbered<Vec<Command>>,
-    histories: Vec<Result<Rc<History>, Fault>>,
+    histories: Vec<Rc<History>>,
     outcomes: HashMap<(u32, Happens), Rc<Outcome>, Fast>,
     fallen: HashMap<u32, u32, Fast>,
     added: HashMap<(u32, u32), u32, Fast>,
@@ -243,7 +245,7 @@ impl Explorer {
             packets: Numbered::new(),
             inboxes: Numbered::new(),
             sequences: Numbered::new(),
-            histories: vec![Ok(Rc::new(History::blank()))],
+            histories: vec![Rc::new(History::blank())],
             outcomes: HashMap::default(),
             fallen: HashMap::default(),
             added: HashMap::default(),
@@ -346,7 +348,7 @@ impl Explorer {
                 let packet = self.packets.get(packet);
                 In::From(packet.0, packet.1.clone())
             }
-            Happens::Call(left) => Item { id: u64::from(left), call: CALLS[usize::from(left) % CALLS.len()] }.into(),
+            Happens::Call(left) => In::Ask(Item { id: u64::from(left), call: CALLS[usize::from(left) % CALLS.len()] }),
             Happens::Tick => In::Tick,
         };
         let ended = acts(&self.rules, &event, memory, disk);
@@ -428,14 +430,14 @@ impl Explorer {
                 Ok(sequence)
             }
             None => {
-                let mut history = (*self.histories[sequence as usize].clone()?).clone();
+                let mut history = (*self.histories[sequence as usize]).clone();
                 let result = history.applied(&self.rules, place, command);
                 self.watched(result)?;
                 let mut longer = (*commands).clone();
                 longer.push(command.clone());
                 let number = self.sequences.number(longer);
                 if number as usize == self.histories.len() {
-                    self.histories.push(Ok(Rc::new(history)));
+                    self.histories.push(Rc::new(history));
                 }
                 Ok(number)
             }
@@ -444,7 +446,7 @@ impl Explorer {
 
     fn told(&self, outcome: &Outcome, sequence: u32) -> Result<(), Fault> {
         for (id, answer) in &outcome.told {
-            let there = self.histories[sequence as usize].clone()?.reply(*id);
+            let there = self.histories[sequence as usize].reply(*id);
             if answer.is_none() || *answer != there {
                 self.watched(fault(Check::Answer, format!("call {id}: {answer:?}, {there:?}")))?;
             }
@@ -497,7 +499,7 @@ impl Explorer {
         }
         for house in state.houses {
             if self.shown.insert((house, state.sequence)) {
-                let history = self.histories[state.sequence as usize].clone()?;
+                let history = self.histories[state.sequence as usize].clone();
                 self.watched(history.shows(&self.houses.values[house as usize].1))?;
             }
         }
@@ -538,11 +540,5 @@ impl Explorer {
         }
         told.reverse();
         told
-    }
-}
-
-impl From<Item> for In {
-    fn from(item: Item) -> In {
-        In::Ask(item)
     }
 }

@@ -54,15 +54,17 @@ fn all(bounds: &[Bounds]) -> bool {
         let start = Instant::now();
         match explore(None, Check::ALL, bounds) {
             Ok(explored) => println!("{bounds:?}: no fault in {:.1?}: {explored:?}", start.elapsed()),
-            Err((fault, events, _)) => println!("{bounds:?}: {fault:?} after {events:#?}"),
+            Err((fault, events, _)) => {
+                println!("{bounds:?}: {fault:?} after {events:#?}");
+                return false;
+            }
         }
+        true
     };
     std::thread::scope(|s| {
-        for bounds in bounds {
-            s.spawn(move || explores(*bounds));
-        }
-    });
-    true
+        let exploring: Vec<_> = bounds.iter().map(|bounds| s.spawn(move || explores(*bounds))).collect();
+        exploring.into_iter().all(|thread| thread.join().unwrap_or(false))
+    })
 }
 
 /// For each planted mistake: the first walk that finds it, the first that finds it by what is promised, and after how many states exploration does.

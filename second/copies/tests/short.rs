@@ -6,8 +6,8 @@ use second_copies::walks::{STEPS, settle, walks};
 
 #[test]
 fn walks_without_fault() {
-    let walked = walks(1, 2000, STEPS, None, Check::ALL).unwrap_or_else(|fault| panic!("{fault:?}"));
-    assert!(walked.tally.clone().met_all(), "{walked:?}");
+    let mut walked = walks(1, 2000, STEPS, None, Check::ALL).unwrap_or_else(|fault| panic!("{fault:?}"));
+    assert!(walked.tally.met_all(), "{walked:?}");
 }
 
 #[test]
@@ -36,8 +36,8 @@ fn walks_find_each_mistake() {
 #[test]
 fn exploration_finds_mistakes() {
     use Mistake::*;
-    for mistake in [AcceptsBelow, IgnoresTheirs, ProposesAgain, LeadsOn, LearnsByVersion, SendsFirst, TwoVersions, IncarnationKept] {
-        let found = LOOKS.iter().any(|bounds| explore(Some(mistake), Check::ALL, Bounds { states: 200_000, ..*bounds }).is_err());
+    for mistake in [AcceptsBelow, IgnoresTheirs, ProposesAgain, LeadsOn, LearnsByVersion, SendsFirst, RecoveringAccepts, TwoVersions] {
+        let found = LOOKS.iter().any(|bounds| explore(Some(mistake), Check::ALL, Bounds { states: 60_000, ..*bounds }).is_err());
         assert!(found, "{mistake:?}");
     }
 }
