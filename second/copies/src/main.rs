@@ -1,4 +1,4 @@
-//! `copies-explore walks [N [SEED]]`, `all [long]`, `mistakes [N]`, `settle [N [SEED]]`, `show MISTAKE SEED`.
+//! `copies-explore walks [N [SEED]]`, `all [long]`, `mistakes [N [MISTAKE]]`, `settle [N [SEED]]`, `show MISTAKE SEED`.
 use second_copies::all::{Bounds, LONG, LONGEST, LOOKS, explore};
 use second_copies::history::Check;
 use second_copies::mistakes::Mistake;
@@ -13,11 +13,11 @@ fn main() -> ExitCode {
     let sound = match (words.first(), number(1, 20_000), number(2, 1)) {
         (Some(&"walks"), Some(n), Some(seed)) => plays(n as usize, seed),
         (Some(&"settle"), Some(n), Some(seed)) => settles(n as usize, seed),
-        (Some(&"mistakes"), Some(n), _) => mistakes(n as usize),
+        (Some(&"mistakes"), Some(n), _) => mistakes(n as usize, words.get(2).copied()),
         (Some(&"all"), ..) => all(if words.len() > 1 { LONGEST } else { LONG }),
         (Some(&"show"), _, Some(seed)) if words.len() > 2 => shows(words[1], seed),
         _ => {
-            eprintln!("usage: copies-explore walks [N [SEED]] | all [long] | mistakes [N] | settle [N [SEED]] | show MISTAKE SEED");
+            eprintln!("usage: copies-explore walks [N [SEED]] | all [long] | mistakes [N [MISTAKE]] | settle [N [SEED]] | show MISTAKE SEED");
             false
         }
     };
@@ -68,8 +68,8 @@ fn all(bounds: &[Bounds]) -> bool {
 }
 
 /// For each planted mistake: the first walk that finds it, the first that finds it by what is promised, and after how many states exploration does.
-fn mistakes(n: usize) -> bool {
-    for mistake in Mistake::ALL {
+fn mistakes(n: usize, only: Option<&str>) -> bool {
+    for mistake in Mistake::ALL.iter().filter(|m| only.is_none_or(|name| name == format!("{m:?}"))) {
         let found = |checks| match walks(1, n, STEPS, Some(*mistake), checks) {
             Ok(_) => format!("not in {n}"),
             Err((seed, fault)) => format!("{seed} ({:?})", fault.check),
