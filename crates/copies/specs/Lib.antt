@@ -3,4 +3,5 @@ pub mod Messages
 pub mod Copy
 pub mod House
 pub mod Promise
+pub mod Admits
 pub mod Cells
