@@ -41,3 +41,5 @@ pub mod Rounds
 pub mod Attempts
 pub mod Open
 pub mod Answered
+pub mod Small
+pub mod SmallTurns
