@@ -4,4 +4,5 @@ pub mod Copy
 pub mod House
 pub mod Promise
 pub mod Admits
+pub mod Guarded
 pub mod Cells

@@ -43,3 +43,7 @@ pub mod Open
 pub mod Answered
 pub mod Small
 pub mod SmallTurns
+pub mod SmallEvents
+pub mod SmallWorlds
+pub mod Admitted
+pub mod AnsweredWithin

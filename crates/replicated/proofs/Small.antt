@@ -168,11 +168,11 @@ module _ {X B O A : Type 0} {n m : ℕ} (l : n ≤ m) where
   work_up (takes r x) s = part_up l x s
   work_up (replaces x) s = tt
 
-  pub small_up : (t : Turn X B O A) → Small n t → Small m t
-  small_up t s =
+  pub small_up : {a : Agreeing O} {done : ℕ → Session A} {me i c q : ℕ} {ws : List (Item O)} {y : Way O} {bs : List (Bundle O)} {d : Span} {z : Work X B O A} {o : Option Serve} → Smalls n a done me i c q ws y bs d z o → Smalls m a done me i c q ws y bs d z o
+  small_up {a} {done} {me} {i} {c} {q} {ws} {y} {bs} {d} {z} {o} s =
       record {
-        agreeing = agreeing_up l t.agreeing s.agreeing;
-        sessions = λ h. session_up l (t.sessions h) (s.sessions h);
+        agreeing = agreeing_up l a s.agreeing;
+        sessions = λ h. session_up l (done h) (s.sessions h);
         memory =
             record {
               house = s.memory.house;
@@ -180,12 +180,12 @@ module _ {X B O A : Type 0} {n m : ℕ} (l : n ≤ m) where
               counter_low = omega (arith, l, s.memory.counter_low);
               quiet_low = omega (arith, l, s.memory.quiet_low);
               few = s.memory.few;
-              way_small = way_up l (length t.memory.waiting) t.memory.way s.memory.way_small;
-              heard_small = command_up l t.memory.heard s.memory.heard_small;
-              span_small = span_up l t.memory.pass.span s.memory.span_small;
+              way_small = way_up l (length ws) y s.memory.way_small;
+              heard_small = command_up l bs s.memory.heard_small;
+              span_small = span_up l d s.memory.span_small;
             };
-        works = work_up t.work s.works;
-        serving = serves_up l t.sends.serves s.serving;
+        works = work_up z s.works;
+        serving = serves_up l o s.serving;
       }
 
 -- COMMANDS from bundles that were heard
