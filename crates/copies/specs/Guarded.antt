@@ -1,6 +1,6 @@
 -- That houses which admit only what fits them answer, too.
 -- Assumes nothing.
-use Rattle.std.specs.Prelude.{ℕ, ◌<◌}
+use Rattle.std.specs.Prelude.{◌<◌}
 use Rattle.compose.specs.Pure.{PureAnswersWithin}
 use Rattle.copies.specs.Service.{Service, Keeper, Lawful, Keeps}
 use Rattle.copies.specs.House.{replicated}

@@ -1,8 +1,7 @@
 -- Every event that happens in fewer than 2^58 steps is admitted: a house's own numbers and those that it hears are below 2^62 by then.
-use Rattle.std.specs.Prelude.{◌≡◌, ◌<◌, ◌≤◌, ℕ, ◌*◌, Bool, true, false, ◌&&◌, List, [], ◌∷◌, length, nat_lt, nat_le, ◌==◌}
+use Rattle.std.specs.Prelude.{◌≡◌, ◌<◌, ◌≤◌, ℕ, ◌*◌, Bool, true, false, ◌&&◌, List, [], ◌∷◌, length, nat_lt}
 use Rattle.std.specs.List.{list_all}
 use Rattle.std.proofs.Common.{refl, subst, arith, lt-ltb, le-leb, eq-eqb}
-use mathlib.Core.List.Memᴰ
 use mathlib.Core.List.{Memᴰ}
 use Rattle.agreement.specs.Copies.{Proposal, nothing, voted}
 use Rattle.disks.specs.Cluster.{In, Ask, Tick, Seen, Packet}
@@ -12,7 +11,7 @@ use Rattle.copies.specs.Service.{Service, Keeper}
 use Rattle.copies.specs.Messages.{Bundle, Command, Session, Status, Want, Part, Bundled, Done, Told, Asked, Given}
 use Rattle.copies.specs.Copy.{Memory}
 use Rattle.copies.specs.House.{Disks, Messages, Guard, replicated}
-use Rattle.copies.specs.Admits.{fits, is_house, bundle_fits, is_only, command_fits, proposal_fits, status_fits, is_ready, session_fits, want_fits, part_fits, message_fits, admits}
+use Rattle.copies.specs.Admits.{fits, bundle_fits, is_only, command_fits, proposal_fits, status_fits, is_ready, session_fits, want_fits, part_fits, message_fits, admits}
 use Rattle.replicated.proofs.Small.{SmallBundle, SmallCommand, SmallProposal, SmallStatus, SmallSession, SmallWant, SmallPart, counted}
 use Rattle.replicated.proofs.SmallEvents.{SmallMessage}
 use Rattle.replicated.proofs.SmallWorlds.{SmallOn, SmallStand, all_small}

@@ -1,12 +1,12 @@
 -- Houses that admit only what fits them answer, too. For fewer than 2^58 steps they do what houses do that admit everything, since all that happens
 -- is admitted: so their traces are traces of those, and a way of answering of those is one of theirs.
-use Rattle.std.specs.Prelude.{◌≡◌, ◌⊎◌, ◌<◌, ◌≤◌, ℕ, suc, ◌+◌, Bool, true, T, List, ◌∷◌, ◌++◌}
+use Rattle.std.specs.Prelude.{◌≡◌, ◌⊎◌, ◌<◌, ◌≤◌, ℕ, suc, ◌+◌, true, T, List, ◌∷◌, ◌++◌}
 use Rattle.std.proofs.Common.{refl, sym, ap, ◌∙◌, subst, inl, inr, arith}
 use mathlib.Core.List.Memᴰ
 use mathlib.Core.List.{Memᴰ}
 use Rattle.disks.specs.Cluster.{In, Ask, Tick, Seen, called, fell, Packet, tells, inside}
 use Rattle.disks.specs.Cluster
-use Rattle.compose.specs.Pure.{on, World, Trace, begin, rises, does, asked, ticks, falls, falls_rising, falls_doing, falls_asked, falls_ticking, after, asking, fallen, steps_of, PureHelped, still, rising, doing, ticking}
+use Rattle.compose.specs.Pure.{World, Trace, begin, rises, does, asked, ticks, falls, falls_rising, falls_doing, falls_asked, falls_ticking, after, asking, steps_of, PureHelped, still, rising, doing, ticking}
 use Rattle.copies.specs.Service.{Service, Keeper}
 use Rattle.copies.specs.Copy.{Memory}
 use Rattle.copies.specs.House.{Disks, Messages, Ended, Guard, behaves, replicated}
@@ -17,10 +17,10 @@ use Rattle.replicated.proofs.Answered.{answers}
 use Rattle.replicated.proofs.Runs.{inside_low}
 
 module _ {O R : Type 0} (sv : Service O R) (kp : Keeper sv) where
-  abbrev free_guard : Guard sv kp
+  abbrev pub free_guard : Guard sv kp
   free_guard x m d = true
 
-  abbrev Wor : Type 0
+  abbrev pub Wor : Type 0
   Wor = World (Memory O) (Disks sv kp) (Messages sv kp)
 
   -- what is admitted is done
@@ -30,7 +30,7 @@ module _ {O R : Type 0} (sv : Service O R) (kp : Keeper sv) where
 
   module _ (all : ℕ) (few : all ≤ 49) where
     -- a trace of houses that admit everything
-    abbrev Free : ℕ → List (Seen O R) → Wor → Type 0
+    abbrev pub Free : ℕ → List (Seen O R) → Wor → Type 0
     Free k es w = (f : Trace (replicated sv kp free_guard) all es w) × (steps_of f ≡ k)
 
     abbrev Ends : (k i : ℕ) → List (Seen O R) → Wor → Ended sv kp → Type 0
@@ -41,7 +41,7 @@ module _ {O R : Type 0} (sv : Service O R) (kp : Keeper sv) where
     left f d x m e a (inl q) = inl q
     left f d x m e a (inr q) = inr (q ∙ ap (λ (z : Ended sv kp). z.stored) (sym (same x m e a)))
 
-    freed : {es : List (Seen O R)} {w : Wor} (t : Trace (replicated sv kp (admits sv kp)) all es w) → steps_of t < 288230376151711744 → Free (steps_of t) es w
+    pub freed : {es : List (Seen O R)} {w : Wor} (t : Trace (replicated sv kp (admits sv kp)) all es w) → steps_of t < 288230376151711744 → Free (steps_of t) es w
     unfolding steps_of
     freed begin l = (begin, refl)
     freed (rises i d h t e) l = let y = freed t (omega (arith, l)) in (rises i d h y.0 e, ap suc y.1)
@@ -68,13 +68,13 @@ module _ {O R : Type 0} (sv : Service O R) (kp : Keeper sv) where
 
     -- HELP for houses that admit everything is help for those that admit what fits
     module _ (group : List ℕ) (ins : T (inside all group)) (n : ℕ) (es : List (Seen O R)) (w : Wor) (start : Free n es w) where
-      abbrev Helps : ℕ → List (Seen O R) → Wor → Type 0
+      abbrev pub Helps : ℕ → List (Seen O R) → Wor → Type 0
       Helps steps fs v = PureHelped (replicated sv kp (admits sv kp)) all group steps es w fs v
 
-      abbrev Goes : ℕ → List (Seen O R) → Wor → Type 0
+      abbrev pub Goes : ℕ → List (Seen O R) → Wor → Type 0
       Goes steps fs v = Helps steps fs v × Free (steps + n) fs v
 
-      guarded : {steps : ℕ} {fs : List (Seen O R)} {v : Wor} → PureHelped (replicated sv kp free_guard) all group steps es w fs v → steps + n < 288230376151711744 → Goes steps fs v
+      pub guarded : {steps : ℕ} {fs : List (Seen O R)} {v : Wor} → PureHelped (replicated sv kp free_guard) all group steps es w fs v → steps + n < 288230376151711744 → Goes steps fs v
       unfolding steps_of
       guarded still l = (still, (start.0, omega (arith, start.1)))
       guarded (rising i d g he e) l = let (y, z) = guarded he (omega (arith, l)) in (rising i d g y e, (rises i d (inside_low all group ins i g) z.0 e, omega (arith, z.1)))

@@ -1,8 +1,8 @@
 -- Numbers that are no larger than a bound, bundles of 1 to 8 calls of houses below 49, and commands with one bundle of a house at the most: what
 -- this says of all that a house stores, remembers and sends.
-use Rattle.std.specs.Prelude.{◌≡◌, ◌<◌, ◌≤◌, ℕ, suc, ◌+◌, Bool, true, false, cond, List, [], ◌∷◌, length, Option, Some, None, count_by, sum_by, ◌==◌}
+use Rattle.std.specs.Prelude.{◌≡◌, ◌<◌, ◌≤◌, ℕ, ◌+◌, Bool, true, false, cond, List, [], ◌∷◌, length, Option, Some, None, count_by, nat_lt, ◌==◌}
 use Rattle.std.proofs.lemmas.List.Sums.{sum_by-cons}
-use Rattle.std.proofs.Common.{refl, ap, subst, sym, inl, inr, arith, eqb-true}
+use Rattle.std.proofs.Common.{refl, ap, subst, sym, inl, inr, arith, eq-eqb, eqb-true}
 use mathlib.Core.List.Memᴰ
 use mathlib.Core.List.{Memᴰ}
 use Rattle.agreement.specs.Copies.{Proposal, nothing, voted, rank, higher}
@@ -241,12 +241,12 @@ module _ {O : Type 0} where
   small_none n = record { bundles = λ b i. absurd (Memᴰ.not-nil i); one = λ h. omega arith }
 
   pub small_higher : (n : ℕ) (u v : Proposal (Command O)) → SmallProposal n u → SmallProposal n v → SmallProposal n (higher u v)
-  small_higher n u v f g = by_test (SmallProposal n) (Rattle.std.specs.Prelude.nat_lt (rank u) (rank v)) (λ _. g) (λ _. f)
+  small_higher n u v f g = by_test (SmallProposal n) (nat_lt (rank u) (rank v)) (λ _. g) (λ _. f)
 
   -- a bundle of a command is counted
   pub counted : (b : Bundle O) (k : Command O) → Memᴰ b k → 1 ≤ many b.house k
   counted b [] i = absurd (Memᴰ.not-nil i)
   counted b (c ∷ k) i = elim (Memᴰ.cases_cons i) [
-    | inl e ↦ omega (arith, add b.house c k, ap digit (Rattle.std.proofs.Common.eq-eqb c.house b.house (ap (λ (z : Bundle O). z.house) (sym e))))
+    | inl e ↦ omega (arith, add b.house c k, ap digit (eq-eqb c.house b.house (ap (λ (z : Bundle O). z.house) (sym e))))
     | inr l ↦ omega (arith, counted b k l, add b.house c k)
   ]

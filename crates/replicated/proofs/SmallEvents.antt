@@ -1,17 +1,16 @@
 -- Whole events keep to small numbers and shapes, with their blocks' work done, and so does all that is sent at their ends. A packet adds two to a
 -- number at the most, a call one, and a tick six.
-use Rattle.std.specs.Prelude.{◌≡◌, ◌≤◌, ℕ, suc, ◌+◌, false, List, [], ◌∷◌, Option, Some, None, nat_le, ◌==◌}
-use Rattle.std.proofs.Common.{subst, arith}
-use mathlib.Core.List.Memᴰ
+use Rattle.std.specs.Prelude.{◌≡◌, ◌≤◌, ℕ, suc, ◌+◌, false, [], ◌∷◌, length, Option, Some, None, nat_le, ◌==◌}
+use Rattle.std.proofs.Common.{refl, subst, arith}
 use mathlib.Core.List.{Memᴰ}
 use Rattle.agreement.proofs.Base.{by_test}
 use Rattle.copies.specs.Service.{Service, Keeper}
-use Rattle.copies.specs.Messages.{Bundle, Command, Session, recovers, Want, Part, next_key, Bundled, Done, Told, Asked, Given}
-use Rattle.copies.specs.Copy.{under, Work, rests, applies, takes, replaces, Turn, is_new, on_bundle, pack, settle, settle_here, forward, goes_on, on_status, on_part, taken, begins_again, on_want, on_tick, queued, count}
-use Rattle.copies.specs.House.{Post, Wholes, Messages, State, bundle_done, command_done, put_rest, stowed, does_work, works, on, is_whole, tail_of, part_of, posts, got, ticked}
+use Rattle.copies.specs.Messages.{Bundle, Command, Want, Part, next_key, Bundled, Done, Told, Asked, Given}
+use Rattle.copies.specs.Copy.{Work, rests, applies, takes, replaces, Turn, is_new, pack, settle_here, forward, goes_on, taken, queued, count}
+use Rattle.copies.specs.House.{Post, Wholes, Messages, State, runs, bundle_done, command_done, put_rest, stowed, does_work, works, is_whole, tail_of, part_of, posts, got, ticked}
 use Rattle.replicated.proofs.Fits.{runs_many}
 use Rattle.replicated.proofs.Sent.{each_post}
-use Rattle.replicated.proofs.Small.{SmallBundle, SmallCommand, SmallStatus, SmallWay, SmallRecovery, SmallSession, SmallSessions, SmallWant, SmallTail, SmallPart, SmallWork, SmallServes, Small, small_up, bundle_up, session_up, status_up, want_up, part_up}
+use Rattle.replicated.proofs.Small.{SmallBundle, SmallStatus, SmallWay, SmallRecovery, SmallSession, SmallSessions, SmallWant, SmallTail, SmallPart, SmallWork, SmallServes, Small, small_up, bundle_up, session_up, status_up, want_up, part_up}
 use Rattle.replicated.proofs.SmallTurns.{work_to, sessions_to, small_forward, small_bundle, small_settle, small_here, small_pack, small_queued, small_status, small_part, small_taken, small_again, small_want, small_tick}
 
 module _ {O R : Type 0} (sv : Service O R) (kp : Keeper sv) where
@@ -38,13 +37,13 @@ module _ {O R : Type 0} (sv : Service O R) (kp : Keeper sv) where
     unfolding bundle_done
     small_done v b z s f = by_test (λ (y : State sv kp). SmallSessions n y.sessions) (is_new b z.sessions) (λ _ h. by_test (SmallSession n) (h == b.house) (λ _. mine) (λ _. f h)) (λ _. f)
       where
-        mine : SmallSession {A = sv.A} n (record { incarnation = b.incarnation; counter = b.counter; replies = (Rattle.copies.specs.House.runs sv kp v b.calls z.rest z.kept).replies })
+        mine : SmallSession {A = sv.A} n (record { incarnation = b.incarnation; counter = b.counter; replies = (runs sv kp v b.calls z.rest z.kept).replies })
         mine = record { incarnation = s.incarnation; counter = s.counter; few = omega (arith, s.few, runs_many sv kp [] v b.calls z.rest z.kept) }
 
     small_command : (v : ℕ) (k : Command O) (z : State sv kp) → ((b : Bundle O) → Memᴰ b k → SmallBundle n b) → SmallSessions n z.sessions → SmallSessions n (command_done sv kp v k z).sessions
     unfolding command_done
     small_command v [] z s f = f
-    small_command v (b ∷ k) z s f = small_command v k (bundle_done sv kp v b z) (λ c l. s c (Memᴰ.tail l)) (small_done v b z (s b (Memᴰ.head Rattle.std.proofs.Common.refl)) f)
+    small_command v (b ∷ k) z s f = small_command v k (bundle_done sv kp v b z) (λ c l. s c (Memᴰ.tail l)) (small_done v b z (s b (Memᴰ.head refl)) f)
 
     -- WORK
     small_works : (w : Wholes sv kp) → S w → S (works sv kp w)
@@ -79,7 +78,7 @@ module _ {O R : Type 0} (sv : Service O R) (kp : Keeper sv) where
     pub small_posts : (w : Wholes sv kp) → S w → (q : Post (Messages sv kp)) → Memᴰ q (posts sv kp w) → SmallMessage n q.what
     small_posts w v =
         each_post sv kp (λ r m. SmallMessage n m) w (λ r. record { promised = v.agreeing.promised; version = v.agreeing.version; last = v.agreeing.last; proposal = v.agreeing.proposal })
-        (λ c e r. (subst (SmallWay n (Rattle.std.specs.Prelude.length w.turn.memory.waiting)) e v.memory.way_small).0) (λ h. v.sessions h)
+        (λ c e r. (subst (SmallWay n (length w.turn.memory.waiting)) e v.memory.way_small).0) (λ h. v.sessions h)
         (λ b t e r. (let f = subst (SmallRecovery n) e v.agreeing.recovery in record { base = f.0; top = f.1 })) (λ z e. part_small w v z.want (subst (SmallServes n) e v.serving))
 
   -- EVENTS

@@ -1,11 +1,11 @@
 -- Turns of a house keep to small numbers and shapes. What a tick and a status add to a number is told; a bundle that is made adds one.
-use Rattle.std.specs.Prelude.{◌≡◌, ◌<◌, ◌≤◌, ℕ, suc, ◌+◌, ◌*◌, ◌/◌, ◌%◌, min, max, Bool, true, false, cond, ◌&&◌, ◌||◌, not, List, [], ◌∷◌, ◌++◌, length, Option, nat_lt, nat_le, ◌==◌}
+use Rattle.std.specs.Prelude.{◌≡◌, ◌<◌, ◌≤◌, ℕ, suc, ◌+◌, ◌%◌, min, max, true, false, cond, ◌&&◌, ◌||◌, not, List, [], ◌∷◌, ◌++◌, length, Option, nat_lt, nat_le, ◌==◌}
 use Rattle.std.proofs.Common.{refl, arith, ltb-true, leb-false}
 use Rattle.agreement.specs.Copies.{Proposal, nothing, voted, rank, higher}
 use Rattle.agreement.proofs.Base.{by_test, by_both}
 use Rattle.copies.specs.Messages.{Item, Bundle, Command, Session, Recovery, level, recovers, is_level, Agreeing, Status, Want, Part, Tail, more, ends}
-use Rattle.copies.specs.Copy.{Way, free, under, Span, unseen, from_to, Memory, Serve, Work, rests, applies, takes, replaces, Turn, is_copy, is_free, is_nil, is_new, is_asked, undone, next_ballot, widened, patience, raised, proposed, applied, adopted, begun, ranging, ended, new_bundle, on_bundle, packed, pack, freed, settle, settle_here, is_open, forward, goes_on, agreed, raising, ahead, takes_over, may_lead, even, hears, asks_on, status_of, noted, on_status, on_part, passed, tail_taken, taken, begins_again, on_want, elect, stirs, resend, on_tick, queued, count}
-use Rattle.replicated.proofs.Small.{SmallBundle, SmallCommand, SmallProposal, SmallRecovery, SmallAgreeing, SmallStatus, SmallWay, SmallSpan, SmallSession, SmallSessions, SmallWant, SmallTail, SmallPart, SmallWork, SmallServes, Smalls, Small, small_undone, small_heard, small_higher}
+use Rattle.copies.specs.Copy.{Way, free, under, Span, unseen, from_to, Serve, Work, rests, Turn, is_copy, is_free, is_nil, is_new, is_asked, undone, next_ballot, widened, patience, raised, proposed, applied, adopted, begun, ranging, ended, new_bundle, on_bundle, packed, pack, settle, settle_here, is_open, forward, agreed, raising, recovering, ahead, takes_over, may_lead, even, hears, asks_on, status_of, noted, on_status, on_part, passed, tail_taken, taken, begins_again, on_want, elect, stirs, resend, on_tick, queued, count}
+use Rattle.replicated.proofs.Small.{SmallBundle, SmallCommand, SmallProposal, SmallRecovery, SmallAgreeing, SmallStatus, SmallWay, SmallSpan, SmallSessions, SmallWant, SmallTail, SmallPart, SmallWork, SmallServes, Smalls, Small, small_undone, small_heard, small_higher}
 
 module _ {O : Type 0} (n : ℕ) (a : Agreeing O) (v : SmallAgreeing n a) (p : ℕ) (l : p ≤ n) where
   raised_small : SmallAgreeing n (raised p a)
@@ -176,7 +176,7 @@ module _ {X B O A : Type 0} (n : ℕ) where
     small_raising : (r : ℕ) (x : Status O) (t : Turn X B O A) → S t → S (raising r p x t)
     small_raising r x t v = by_test (λ (z : Turn X B O A). S (agreed (raised p t.agreeing) z)) (nat_lt t.agreeing.promised p || nat_lt x.promised p) (λ _. small_raised t v) (λ _. small_raised t v)
 
-    small_recovering : (r : ℕ) (t : Turn X B O A) → S t → S (Rattle.copies.specs.Copy.recovering r p t)
+    small_recovering : (r : ℕ) (t : Turn X B O A) → S t → S (recovering r p t)
     small_recovering r t v = span_to (agreeing_to v (begun_small n t.agreeing v.agreeing p l)) tt
 
     small_ahead : (r : ℕ) (x : Status O) (u : Proposal (Command O)) (t : Turn X B O A) → t.agreeing.version < n → SmallStatus n x → SmallProposal n u → S t → S (ahead r p x u t)

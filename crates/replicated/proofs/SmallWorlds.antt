@@ -1,6 +1,6 @@
 -- In every trace all numbers are at most eight times its steps, whatever is admitted: what houses store and remember, and what is under way.
-use Rattle.std.specs.Prelude.{◌≡◌, ◌⊎◌, ◌<◌, ◌≤◌, ℕ, suc, ◌+◌, ◌*◌, false, List, [], ◌++◌, nat_le}
-use Rattle.std.proofs.Common.{◌≢◌, refl, sym, subst, inl, inr, arith}
+use Rattle.std.specs.Prelude.{◌≡◌, ◌⊎◌, ◌<◌, ◌≤◌, ℕ, suc, ◌+◌, ◌*◌, List, [], ◌++◌, nat_le}
+use Rattle.std.proofs.Common.{sym, subst, inl, inr, arith}
 use mathlib.Core.List.Memᴰ
 use mathlib.Core.List.{Memᴰ}
 use Rattle.agreement.proofs.Base.{by_test}
@@ -8,13 +8,12 @@ use Rattle.disks.specs.Cluster.{In, Ask, Tick, Seen, Packet, packets, put}
 use Rattle.disks.specs.Cluster
 use Rattle.compose.specs.Pure.{Stand, off, on, World, Trace, begin, rises, does, asked, ticks, falls, falls_rising, falls_doing, falls_asked, falls_ticking, steps_of}
 use Rattle.copies.specs.Service.{Service, Keeper}
-use Rattle.copies.specs.Copy.{Memory, queued, count}
-use Rattle.copies.specs.House.{Disks, Wholes, Messages, Ended, Guard, begins, disk_of, got, ticked, finishes, acts, behaves, wakes, replicated}
+use Rattle.copies.specs.Copy.{Memory, count}
+use Rattle.copies.specs.House.{Disks, Wholes, Messages, Ended, Guard, begins, got, ticked, finishes, acts, behaves, wakes, replicated}
 use Rattle.replicated.proofs.Lists.{here, there, each}
 use Rattle.replicated.proofs.Numbered.{got_incarnation}
 use Rattle.replicated.proofs.Sent.{from_posts}
 use Rattle.replicated.proofs.Small.{SmallAgreeing, SmallSessions, Small, small_up, small_none, agreeing_up, session_up}
-use Rattle.replicated.proofs.SmallTurns.{work_to}
 use Rattle.replicated.proofs.SmallEvents.{SmallMessage, message_up, small_posts, small_got, small_ticked, small_asked}
 
 module _ {O R : Type 0} (sv : Service O R) (kp : Keeper sv) where
