@@ -77,7 +77,7 @@ room : (s : ℕ) → s < 288230376151711744 → 8 * s < 4611686018427387904
 room s l = omega (arith, l)
 
 module _ {O R : Type 0} (sv : Service O R) (kp : Keeper sv) where
-  -- of house's memory and disk: the events that may happen to it
+  -- of what a house remembers and stores: every event that may happen to it is admitted
   pub record Admitted (ps : List (Packet (Messages sv kp))) (m : Memory O) (d : Disks sv kp) : Type 0 where
     pub tick : admits sv kp Tick m d ≡ true
     pub from : (p : Packet (Messages sv kp)) → Memᴰ p ps → admits sv kp (Cluster.In.From p.from p.what) m d ≡ true
