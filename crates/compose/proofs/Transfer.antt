@@ -1,6 +1,6 @@
 -- What is carried up to 2^56 steps, from what is carried for any limit of at least that many.
-use Rattle.std.specs.Prelude.{◌≡◌, ◌⊎◌, ℕ, suc, ◌<◌}
-use Rattle.std.proofs.Common.{lit≤}
+use Rattle.std.specs.Prelude.{◌≡◌, refl, ◌⊎◌, ℕ, suc, ◌<◌}
+use Rattle.std.proofs.Common.{inl, inr, lit≤}
 use mathlib.Core.List.{List, ◌∷◌, ◌++◌, Memᴰ}
 use Rattle.disks.specs.Device.{Device, run, Ran}
 use Rattle.disks.specs.Cluster
@@ -68,17 +68,21 @@ module _ {M O R : Type 0} (h : House M O R) (q : Pure M O R) (all size : ℕ) (s
         Trace q all (tells i x.out ++ fs) (after q i x (record { house = l.world.house; wire = l.world.wire; pending = pend' })) → Like (suc n) (tells i r.value.out ++ fs) (Cluster.after {O = O} h i r (record { house = w.house; wire = w.wire; pending = pend }))
     ended pend pend' p fs r x e o t =
         let b : to.Beside h q all size 72057594037927936 (to_the_limit sim) n (record { house = w.house; wire = w.wire; pending = pend }) (record { house = l.world.house; wire = l.world.wire; pending = pend' }) = record { houses = l.houses; wire_is = l.wire_is; pending_is = p } in
-        like (record { world = after q i x (record { house = l.world.house; wire = l.world.wire; pending = pend' }); trace = rw e t; beside = to.ended h q all size 72057594037927936 (to_the_limit sim) n _ _ b i r x e o })
+        let z = to.ended h q all size 72057594037927936 (to_the_limit sim) n _ _ b i r x e o in
+        record { world = after q i x (record { house = l.world.house; wire = l.world.wire; pending = pend' }); trace = rw e t; houses = z.houses; wire_is = z.wire_is; pending_is = z.pending_is }
 
     -- power failed
     pub fell-down : (fs : List (Seen O R)) (s : q.D) (f : Device) → sim.Off (suc n) i s f → Trace q all (fell i ∷ fs) (fallen i s l.world) → Like (suc n) (fell i ∷ fs) (Cluster.fallen i f w)
-    fell-down fs s f o t = like (record { world = fallen i s l.world; trace = t; beside = to.fell-down h q all size 72057594037927936 (to_the_limit sim) n w l.world (beside l) i s f o })
+    fell-down fs s f o t = let z = to.fell-down h q all size 72057594037927936 (to_the_limit sim) n w l.world (beside l) i s f o in
+        record { world = fallen i s l.world; trace = t; houses = z.houses; wire_is = z.wire_is; pending_is = z.pending_is }
 
     pub either : (fs : List (Seen O R)) (s s' : q.D) (f : Device) → sim.Off (suc n) i s f ⊎ sim.Off (suc n) i s' f → ((z : q.D) → (z ≡ s) ⊎ (z ≡ s') → Trace q all (fell i ∷ fs) (fallen i z l.world)) → Like (suc n) (fell i ∷ fs) (Cluster.fallen i f w)
-    either fs s s' f o t = like (to.either h q all size 72057594037927936 (to_the_limit sim) n w l.world (beside l) i fs s s' f o t)
+    either fs s s' f (inl o) t = fell-down fs s f o (t s (inl refl))
+    either fs s s' f (inr o) t = fell-down fs s' f o (t s' (inr refl))
 
     pub came_up : (s : q.D) (d : Device) → sim.On (suc n) i (q.opens i all s).mem (q.opens i all s).stored (run (h.opens i all size) d).value (run (h.opens i all size) d).device → Trace q all es (risen q all i s l.world) → Like (suc n) es (Cluster.risen {O = O} h all size i d w)
-    came_up s d o t = like (record { world = risen q all i s l.world; trace = t; beside = to.came_up h q all size 72057594037927936 (to_the_limit sim) n w l.world (beside l) i s d o })
+    came_up s d o t = let z = to.came_up h q all size 72057594037927936 (to_the_limit sim) n w l.world (beside l) i s d o in
+        record { world = risen q all i s l.world; trace = t; houses = z.houses; wire_is = z.wire_is; pending_is = z.pending_is }
 
     pub on_wire : (p : Packet M) → Memᴰ p w.wire → Memᴰ p l.world.wire
     on_wire = to.on_wire h q all size 72057594037927936 (to_the_limit sim) n w l.world (beside l) i

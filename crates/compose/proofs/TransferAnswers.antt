@@ -8,7 +8,7 @@ use Rattle.disks.specs.Cluster
 use Rattle.disks.specs.Cluster.{In, From, Tick, Out, House, Seen, tells, inside, Helped, still as still', rising as rising', doing as doing', ticking as ticking', on as on', off as off'}
 use Rattle.compose.proofs.Group.{in_group}
 use Rattle.compose.specs.Pure.{Pure, off, on, World, after, PureHelped, still, rising, doing, ticking}
-use Rattle.compose.specs.SimulationFor.{SimulatesFor, CarriesAnswers}
+use Rattle.compose.specs.SimulationFor.{SimulatesFor, CarriesAnswers, CarriesAnswersWithin}
 use Rattle.compose.proofs.TransferFor.{Match, Beside, ended, came_up, alike}
 
 module _ {M O R : Type 0} (h : House M O R) (q : Pure M O R) (all size limit : ℕ) (sim : SimulatesFor h q all size limit) where
@@ -67,9 +67,12 @@ module _ {M O R : Type 0} (h : House M O R) (q : Pure M O R) (all size limit : �
         let y = reach l (omega arith) t in let z = is_on y i m s e in
         step y i z.0 z.1 Tick m s (in_group all group within mem) b z.3 (ticking' i z.0 z.1 mem y.helped z.2)
 
-pub carries-answers : CarriesAnswers
-carries-answers M O R h q limit bound far sim one all size a b c d n es w lt t group dist within len =
+pub carries_answers_within : CarriesAnswersWithin
+carries_answers_within M O R h q limit bound far sim one all size a b c d n es w lt t group dist within len =
     let y = alike h (q all size) all size limit (sim all size a b c d) (omega arith) t in
-    let (fs, v, steps, few, he, all_told) = one all size all a b es y.world y.trace group dist within len in
+    let (fs, v, steps, few, he, all_told) = one all size all a b es y.world y.trace (omega (arith, y.few)) group dist within len in
     let z = reach h (q all size) all size limit (sim all size a b c d) group within n w y.beside (omega arith) he in
     (fs, z.world, z.helped, λ x m g. all_told x (rw y.beside.pending_is m) g)
+
+pub carries-answers : CarriesAnswers
+carries-answers M O R h q limit bound far sim one = carries_answers_within M O R h q limit bound far sim (λ all size n three few es w t _. one all size n three few es w t)

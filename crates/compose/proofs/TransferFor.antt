@@ -1,14 +1,14 @@
 -- A house on a device that does what a pure house does, for as many steps as a limit says: each of its traces is one of the pure house's,
 -- house by house related, with the same packets under way and the same calls pending. So what holds of the pure traces holds of its own.
 -- A world of pure houses stands beside one of houses on devices by a record of its own (`Beside`), which a way of answering, that goes on
--- from a trace, needs too.
-use Rattle.std.specs.Prelude.{◌≡◌, refl, ◌⊎◌, ℕ, suc, ◌<◌}
+-- from a trace, needs too. The pure trace has no more steps.
+use Rattle.std.specs.Prelude.{◌≡◌, refl, ◌⊎◌, ℕ, suc, ◌<◌, ◌≤◌}
 use Rattle.std.proofs.Common.{inl, inr, arith}
 use mathlib.Core.List.{List, ◌∷◌, ◌++◌, Memᴰ}
 use Rattle.disks.specs.Device.{Device, run, Ran}
 use Rattle.disks.specs.Cluster
 use Rattle.disks.specs.Cluster.{In, From, Ask, Tick, Out, Tell, House, Seen, called, fell, Packet, Asking, put, packets, tells, settled, away_from, count_at, Plain, Waiting, Ready, Linear, AsOne, BusyAtNine, Within, begin as begin', rises as rises', does as does', asked as asked', ticks as ticks', falls as falls', falls_rising as falls_rising', falls_doing as falls_doing', falls_asked as falls_asked', falls_ticking as falls_ticking', on as on', off as off'}
-use Rattle.compose.specs.Pure.{Pure, Stand, off, on, World, Trace, begin, rises, does, asked, ticks, falls, falls_rising, falls_doing, falls_asked, falls_ticking, after, fallen, risen, asking}
+use Rattle.compose.specs.Pure.{Pure, Stand, off, on, World, Trace, begin, rises, does, asked, ticks, falls, falls_rising, falls_doing, falls_asked, falls_ticking, after, fallen, risen, asking, steps_of}
 use Rattle.compose.proofs.Put.{both-put}
 use Rattle.compose.specs.SimulationFor.{SimulatesFor, CarriesFor, CarriesWithinFor}
 
@@ -43,7 +43,12 @@ module _ {M O R : Type 0} (h : House M O R) (q : Pure M O R) (all size limit : �
   pub record Like (n : ℕ) (es : List (Seen O R)) (w : Cluster.World h.Mem M) : Type 0 where
     pub world : World q.Mem q.D M
     pub trace : Trace q all es world
+    pub few : steps_of trace ≤ n
     pub beside : Beside n w world
+
+  -- a trace of no more steps
+  abbrev pub TraceIn : (n : ℕ) → List (Seen O R) → World q.Mem q.D M → Type 0
+  TraceIn n es u = (t : Trace q all es u) × (steps_of t ≤ n)
 
   module _ (n : ℕ) (w : Cluster.World h.Mem M) (u : World q.Mem q.D M) (l : Beside n w u) (i : ℕ) where
     pub is_on : (k : h.Mem) (d : Device) → w.house i ≡ on' k d → (m : q.Mem) × (s : q.D) × (u.house i ≡ on m s) × sim.On n i m s k d
@@ -80,41 +85,44 @@ module _ {M O R : Type 0} (h : House M O R) (q : Pure M O R) (all size limit : �
     pub on_wire : (p : Packet M) → Memᴰ p w.wire → Memᴰ p u.wire
     on_wire p m = rw l.wire_is m
 
-    pub either : (es : List (Seen O R)) (s s' : q.D) (f : Device) → sim.Off (suc n) i s f ⊎ sim.Off (suc n) i s' f → ((z : q.D) → (z ≡ s) ⊎ (z ≡ s') → Trace q all (fell i ∷ es) (fallen i z u)) → Like (suc n) (fell i ∷ es) (Cluster.fallen i f w)
-    either es s s' f (inl o) t = record { world = fallen i s u; trace = t s (inl refl); beside = fell-down s f o }
-    either es s s' f (inr o) t = record { world = fallen i s' u; trace = t s' (inr refl); beside = fell-down s' f o }
+    pub either : (es : List (Seen O R)) (s s' : q.D) (f : Device) → sim.Off (suc n) i s f ⊎ sim.Off (suc n) i s' f → ((z : q.D) → (z ≡ s) ⊎ (z ≡ s') → TraceIn (suc n) (fell i ∷ es) (fallen i z u)) → Like (suc n) (fell i ∷ es) (Cluster.fallen i f w)
+    either es s s' f (inl o) t = record { world = fallen i s u; trace = (t s (inl refl)).0; few = (t s (inl refl)).1; beside = fell-down s f o }
+    either es s s' f (inr o) t = record { world = fallen i s' u; trace = (t s' (inr refl)).0; few = (t s' (inr refl)).1; beside = fell-down s' f o }
 
     -- of an event that ended the same is told
-    told : (es : List (Seen O R)) (k : h.Mem) (d : Device) (x : In M O) (m : q.Mem) (s : q.D) → i < all → suc n < limit → sim.On n i m s k d → Trace q all (tells i (q.does x m s).out ++ es) (after q i (q.does x m s) u) →
+    told : (es : List (Seen O R)) (k : h.Mem) (d : Device) (x : In M O) (m : q.Mem) (s : q.D) → i < all → suc n < limit → sim.On n i m s k d → TraceIn (suc n) (tells i (q.does x m s).out ++ es) (after q i (q.does x m s) u) →
         Like (suc n) (tells i (run (h.does x k) d).value.out ++ es) (Cluster.after {O = O} h i (run (h.does x k) d) w)
     told es k d x m s hi b o t =
         let e = sim.out_is n i m s k d x o in
+        let f : TraceIn (suc n) (tells i (run (h.does x k) d).value.out ++ es) (after q i (q.does x m s) u) = rw e t in
         record {
           world = after q i (q.does x m s) u;
-          trace = rw e t;
+          trace = f.0;
+          few = f.1;
           beside = ended (run (h.does x k) d) (q.does x m s) e (sim.does n i m s k d x hi b o);
         }
 
   pub alike : {n : ℕ} {es : List (Seen O R)} {w : Cluster.World h.Mem M} → n < limit → Cluster.Trace h all size n es w → Like n es w
-  alike b begin' = record { world = _; trace = begin; beside = record { houses = λ j. sim.blank j; wire_is = refl; pending_is = refl } }
+  unfolding steps_of
+  alike b begin' = record { world = _; trace = begin; few = omega arith; beside = record { houses = λ j. sim.blank j; wire_is = refl; pending_is = refl } }
   alike b (rises' {n} {es} {w} i d hi t e) = let l = alike (omega arith) t in let z = is_off n w l.world l.beside i d e in
-      record { world = _; trace = rises i z.0 hi l.trace z.1; beside = came_up n w l.world l.beside i z.0 d (sim.opens n i z.0 d hi b z.2) }
+      record { world = _; trace = rises i z.0 hi l.trace z.1; few = omega (arith, l.few); beside = came_up n w l.world l.beside i z.0 d (sim.opens n i z.0 d hi b z.2) }
   alike b (does' {n} {es} {w} i k d p hi t e m to) = let l = alike (omega arith) t in let z = is_on n w l.world l.beside i k d e in
-      told n w l.world l.beside i es k d (From p.from p.what) z.0 z.1 hi b z.3 (does i z.0 z.1 p hi l.trace z.2 (on_wire n w l.world l.beside i p m) to)
+      told n w l.world l.beside i es k d (From p.from p.what) z.0 z.1 hi b z.3 (does i z.0 z.1 p hi l.trace z.2 (on_wire n w l.world l.beside i p m) to, omega (arith, l.few))
   alike b (asked' {n} {es} {w} i c o k d hi hk t e u) = let l = alike (omega arith) t in let z = is_on n w l.world l.beside i k d e in
-      told n (Cluster.asking i c w) (asking i c l.world) (was-asked n w l.world l.beside i c) i (called i c o ∷ es) k d (Ask c o) z.0 z.1 hi b z.3 (asked i c o z.0 z.1 hi l.trace z.2 u)
+      told n (Cluster.asking i c w) (asking i c l.world) (was-asked n w l.world l.beside i c) i (called i c o ∷ es) k d (Ask c o) z.0 z.1 hi b z.3 (asked i c o z.0 z.1 hi l.trace z.2 u, omega (arith, l.few))
   alike b (ticks' {n} {es} {w} i k d hi t e) = let l = alike (omega arith) t in let z = is_on n w l.world l.beside i k d e in
-      told n w l.world l.beside i es k d Tick z.0 z.1 hi b z.3 (ticks i z.0 z.1 hi l.trace z.2)
+      told n w l.world l.beside i es k d Tick z.0 z.1 hi b z.3 (ticks i z.0 z.1 hi l.trace z.2, omega (arith, l.few))
   alike b (falls' {n} {es} {w} i k d f hi t e c) = let l = alike (omega arith) t in let z = is_on n w l.world l.beside i k d e in
-      record { world = _; trace = falls i z.0 z.1 hi l.trace z.2; beside = fell-down n w l.world l.beside i z.1 f (sim.cut n i z.0 z.1 k d f z.3 c) }
+      record { world = _; trace = falls i z.0 z.1 hi l.trace z.2; few = omega (arith, l.few); beside = fell-down n w l.world l.beside i z.1 f (sim.cut n i z.0 z.1 k d f z.3 c) }
   alike b (falls_rising' {n} {es} {w} i d g f hi t e up c) = let l = alike (omega arith) t in let z = is_off n w l.world l.beside i d e in
-      either n w l.world l.beside i es z.0 _ f (sim.opens-cut n i z.0 d g f hi b z.2 up c) (λ y o. falls_rising i z.0 y hi l.trace z.1 o)
+      either n w l.world l.beside i es z.0 _ f (sim.opens-cut n i z.0 d g f hi b z.2 up c) (λ y o. (falls_rising i z.0 y hi l.trace z.1 o, omega (arith, l.few)))
   alike b (falls_doing' {n} {es} {w} i k d g f p hi t e m to up c) = let l = alike (omega arith) t in let z = is_on n w l.world l.beside i k d e in
-      either n w l.world l.beside i es z.1 _ f (sim.does-cut n i z.0 z.1 k d g f (From p.from p.what) hi b z.3 up c) (λ y o. falls_doing i z.0 z.1 y p hi l.trace z.2 (on_wire n w l.world l.beside i p m) to o)
+      either n w l.world l.beside i es z.1 _ f (sim.does-cut n i z.0 z.1 k d g f (From p.from p.what) hi b z.3 up c) (λ y o. (falls_doing i z.0 z.1 y p hi l.trace z.2 (on_wire n w l.world l.beside i p m) to o, omega (arith, l.few)))
   alike b (falls_asked' {n} {es} {w} i a o k d g f hi hk t e u up c) = let l = alike (omega arith) t in let z = is_on n w l.world l.beside i k d e in
-      either n w l.world l.beside i (called i a o ∷ es) z.1 _ f (sim.does-cut n i z.0 z.1 k d g f (Ask a o) hi b z.3 up c) (λ y v. falls_asked i a o z.0 z.1 y hi l.trace z.2 u v)
+      either n w l.world l.beside i (called i a o ∷ es) z.1 _ f (sim.does-cut n i z.0 z.1 k d g f (Ask a o) hi b z.3 up c) (λ y v. (falls_asked i a o z.0 z.1 y hi l.trace z.2 u v, omega (arith, l.few)))
   alike b (falls_ticking' {n} {es} {w} i k d g f hi t e up c) = let l = alike (omega arith) t in let z = is_on n w l.world l.beside i k d e in
-      either n w l.world l.beside i es z.1 _ f (sim.does-cut n i z.0 z.1 k d g f Tick hi b z.3 up c) (λ y o. falls_ticking i z.0 z.1 y hi l.trace z.2 o)
+      either n w l.world l.beside i es z.1 _ f (sim.does-cut n i z.0 z.1 k d g f Tick hi b z.3 up c) (λ y o. (falls_ticking i z.0 z.1 y hi l.trace z.2 o, omega (arith, l.few)))
 
 pub carries_for : CarriesFor
 carries_for M O R h q p limit far sim = (

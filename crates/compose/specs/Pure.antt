@@ -78,3 +78,22 @@ abbrev pub PureAnswers : {M O R : Type 0} → (bound : ℕ) → Pure M O R → T
 PureAnswers {M} {O} {R} bound h =
     (all : ℕ) → 3 ≤ all → all ≤ 49 → (es : List (Seen O R)) (w : World h.Mem h.D M) → Trace h all es w → (group : List ℕ) → T (distinct group) → T (inside all group) → all ≤ length group + 1 →
     (fs : List (Seen O R)) × (v : World h.Mem h.D M) × (steps : ℕ) × (steps ≤ bound) × PureHelped h all group steps es w fs v × ((a : Asking) → Memᴰ a w.pending → Memᴰ a.house group → (r : R) × Memᴰ (answered a.house a.id r) fs)
+
+-- of how many steps a trace is
+unfoldable pub steps_of : {M O R : Type 0} {h : Pure M O R} {all : ℕ} {es : List (Seen O R)} {w : World h.Mem h.D M} → Trace h all es w → ℕ
+steps_of begin = 0
+steps_of (rises i d l t e) = suc (steps_of t)
+steps_of (does i m d p l t e n to) = suc (steps_of t)
+steps_of (asked i k o m d l t e n) = suc (steps_of t)
+steps_of (ticks i m d l t e) = suc (steps_of t)
+steps_of (falls i m d l t e) = suc (steps_of t)
+steps_of (falls_rising i d f l t e c) = suc (steps_of t)
+steps_of (falls_doing i m d f p l t e n to c) = suc (steps_of t)
+steps_of (falls_asked i k o m d f l t e n c) = suc (steps_of t)
+steps_of (falls_ticking i m d f l t e c) = suc (steps_of t)
+
+-- the same, from all that can come to be in fewer steps than a limit
+abbrev pub PureAnswersWithin : {M O R : Type 0} → (limit bound : ℕ) → Pure M O R → Type 0
+PureAnswersWithin {M} {O} {R} limit bound h =
+    (all : ℕ) → 3 ≤ all → all ≤ 49 → (es : List (Seen O R)) (w : World h.Mem h.D M) (t : Trace h all es w) → steps_of t < limit → (group : List ℕ) → T (distinct group) → T (inside all group) → all ≤ length group + 1 →
+    (fs : List (Seen O R)) × (v : World h.Mem h.D M) × (steps : ℕ) × (steps ≤ bound) × PureHelped h all group steps es w fs v × ((a : Asking) → Memᴰ a w.pending → Memᴰ a.house group → (r : R) × Memᴰ (answered a.house a.id r) fs)

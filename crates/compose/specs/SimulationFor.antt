@@ -3,7 +3,7 @@
 use Rattle.std.specs.Prelude.{◌≡◌, ◌⊎◌, ℕ, suc, ◌+◌, ◌<◌, ◌≤◌}
 use Rattle.disks.specs.Device.{Device, blank_device, run, Upto, AfterCut, Fair}
 use Rattle.disks.specs.Cluster.{In, House, Plain, AsOne, BusyAtNine, Within, Answers}
-use Rattle.compose.specs.Pure.{Pure, PureAsOne, PureBusy, PureAnswers}
+use Rattle.compose.specs.Pure.{Pure, PureAsOne, PureBusy, PureAnswers, PureAnswersWithin}
 
 -- Off: what is stored and a device that holds it. On: the same, with both memories. n counts the steps of all houses, which
 -- are fewer than the limit. Whatever packet comes, sent by a house or not.
@@ -45,3 +45,9 @@ abbrev pub CarriesAnswers : Type 1
 CarriesAnswers =
     (M O R : Type 0) (h : House M O R) (q : ℕ → ℕ → Pure M O R) (limit bound : ℕ) → 72057594037927936 + bound ≤ limit →
     ((all size : ℕ) → 3 ≤ all → all ≤ 49 → 65536 ≤ size → size ≤ 1099511627776 → SimulatesFor h (q all size) all size limit) → ((all size : ℕ) → PureAnswers bound (q all size)) → Answers h
+
+-- Then it is enough that the pure houses answer from what can come to be in fewer than 2^56 steps.
+abbrev pub CarriesAnswersWithin : Type 1
+CarriesAnswersWithin =
+    (M O R : Type 0) (h : House M O R) (q : ℕ → ℕ → Pure M O R) (limit bound : ℕ) →
+    72057594037927936 + bound ≤ limit → ((all size : ℕ) → 3 ≤ all → all ≤ 49 → 65536 ≤ size → size ≤ 1099511627776 → SimulatesFor h (q all size) all size limit) → ((all size : ℕ) → PureAnswersWithin 72057594037927936 bound (q all size)) → Answers h

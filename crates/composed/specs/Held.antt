@@ -7,7 +7,7 @@ use Rattle.compose.specs.Many.{ManyAtOnce, AnyWaiting}
 use Rattle.compose.specs.Past.{InsertedIntoThePast, OneInserted}
 use Rattle.compose.specs.Sets.{TakenDone, TakenTold, TakenBusy, TakenMany}
 use Rattle.compose.specs.Simulation.{Carries, CarriesWithin}
-use Rattle.compose.specs.SimulationFor.{CarriesFor, CarriesWithinFor, CarriesAnswers}
+use Rattle.compose.specs.SimulationFor.{CarriesFor, CarriesWithinFor, CarriesAnswers, CarriesAnswersWithin}
 use Rattle.compose.specs.Ways.{HousesBusy, HousesAnswer}
 use Rattle.compose.proofs.Along.{linear_along}
 use Rattle.compose.proofs.Compose.{layers_compose}
@@ -18,7 +18,7 @@ use Rattle.compose.proofs.Past.{inserted_into_the_past, one_inserted}
 use Rattle.compose.proofs.Sets.{taken_done, taken-told, taken-busy, taken_many}
 use Rattle.compose.proofs.Transfer.{carries, carries-within}
 use Rattle.compose.proofs.TransferFor.{carries_for, carries_within_for}
-use Rattle.compose.proofs.TransferAnswers.{carries-answers}
+use Rattle.compose.proofs.TransferAnswers.{carries-answers, carries_answers_within}
 use Rattle.compose.proofs.Ways.{houses-busy, houses-answer}
 
 pub data Shown {A : Type 1} (proof : A) : Type 0 where
@@ -83,3 +83,6 @@ CarriesWithinForHeld = Shown {A = CarriesWithinFor} carries_within_for
 
 abbrev pub CarriesAnswersHeld : Type 0
 CarriesAnswersHeld = Shown {A = CarriesAnswers} carries-answers
+
+abbrev pub CarriesAnswersWithinHeld : Type 0
+CarriesAnswersWithinHeld = Shown {A = CarriesAnswersWithin} carries_answers_within

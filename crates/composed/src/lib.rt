@@ -2,7 +2,7 @@
 // says that a statement of `compose` has this proof.
 #![tactic(auto)]
 
-ghost use Rattle.composed.specs.Held.{LayersHeld, WithinHeld, HousesHeld, HousesWithinHeld, HousesBusyHeld, HousesAnswerHeld, AlongHeld, ManyHeld, AnyHeld, TakenHeld, TakenToldHeld, TakenBusyHeld, TakenManyHeld, PastHeld, OneInsertedHeld, CarriesHeld, CarriesWithinHeld, CarriesForHeld, CarriesWithinForHeld, CarriesAnswersHeld};
+ghost use Rattle.composed.specs.Held.{LayersHeld, WithinHeld, HousesHeld, HousesWithinHeld, HousesBusyHeld, HousesAnswerHeld, AlongHeld, ManyHeld, AnyHeld, TakenHeld, TakenToldHeld, TakenBusyHeld, TakenManyHeld, PastHeld, OneInsertedHeld, CarriesHeld, CarriesWithinHeld, CarriesForHeld, CarriesWithinForHeld, CarriesAnswersHeld, CarriesAnswersWithinHeld};
 
 // A layer on a machine: it keeps to its judge, and stays within the device.
 pub fn layers_compose()
@@ -41,9 +41,11 @@ pub fn pure_houses_carry()
     ensures within { CarriesWithinHeld }
 {}
 
-// One that does so for as many steps as a limit says: the same, and it answers, as the pure house does.
+// One that does so for as many steps as a limit says: the same, and it answers, as the pure house does,
+// be it only from what comes to be in fewer than 2^56 steps.
 pub fn pure_houses_carry_for()
     ensures carries { CarriesForHeld }
     ensures within { CarriesWithinForHeld }
     ensures answers { CarriesAnswersHeld }
+    ensures answers_within { CarriesAnswersWithinHeld }
 {}

@@ -3,4 +3,6 @@ pub mod Messages
 pub mod Copy
 pub mod House
 pub mod Promise
+pub mod Admits
+pub mod Guarded
 pub mod Cells

@@ -1,10 +1,12 @@
 -- Statements that lie above Type 0, which a contract can't hold, as types that can: that there is this proof of one.
 use Rattle.copies.specs.Service.{Keeps}
 use Rattle.copies.specs.Cells.{cells, cell_keeper}
+use Rattle.copies.specs.Guarded.{ReplicatedAnswersWithin}
 use Rattle.copies.specs.Promise.{Agreement, CaughtUp, StoredFirst, Replicated, BusyOnly, ReplicatedAnswers}
 use Rattle.composed.specs.Held.{Shown}
 use Rattle.replicated.proofs.Agreement.{agreement}
 use Rattle.replicated.proofs.Answered.{answers}
+use Rattle.replicated.proofs.AnsweredWithin.{answers_within}
 use Rattle.replicated.proofs.Busy.{busy}
 use Rattle.replicated.proofs.CaughtUp.{caught_up}
 use Rattle.replicated.proofs.Cells.{cells_keeps}
@@ -28,6 +30,9 @@ StoredFirstHeld = Shown {A = StoredFirst} stored_first
 
 abbrev pub AnswersHeld : Type 0
 AnswersHeld = Shown {A = ReplicatedAnswers} answers
+
+abbrev pub AnswersWithinHeld : Type 0
+AnswersWithinHeld = Shown {A = ReplicatedAnswersWithin} answers_within
 
 -- the laws of a keeper can be met
 abbrev pub CellsKept : Type 0

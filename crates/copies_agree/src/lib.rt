@@ -4,7 +4,7 @@
 
 ghost use Rattle.copies.specs.Service.{Lawful};
 ghost use Rattle.copies.specs.Cells.{cells, Alive, CatchesUp};
-ghost use Rattle.copies_agree.specs.Held.{AgreementHeld, CaughtUpHeld, AsOneHeld, BusyHeld, AnswersHeld, StoredFirstHeld, CellsKept};
+ghost use Rattle.copies_agree.specs.Held.{AgreementHeld, CaughtUpHeld, AsOneHeld, BusyHeld, AnswersHeld, AnswersWithinHeld, StoredFirstHeld, CellsKept};
 
 // There is one sequence of commands, and each copy has, whenever it is looked at, the state after the first of them; one that catches up
 // has each block as it was after so many, from its base to its top.
@@ -23,9 +23,11 @@ pub fn busy_at_nine()
     ensures { BusyHeld }
 {}
 
-// With any one house out, all calls that wait at the others can be answered, in a number of steps that is told.
+// With any one house out, all calls that wait at the others can be answered, in a number of steps that is told: of houses that admit every
+// event, and of those that admit only what fits them, from what comes to be in fewer than 2^56 steps.
 pub fn houses_answer()
-    ensures { AnswersHeld }
+    ensures every { AnswersHeld }
+    ensures within { AnswersWithinHeld }
 {}
 
 // What a copy says of itself it has stored before.

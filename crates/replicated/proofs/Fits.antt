@@ -64,7 +64,7 @@ module _ {O : Type 0} where
     pub way_is : (b : Bundle O) → way ≡ under b → Memᴰ b made × (b.house ≡ j) × (0 < b.counter)
     pub heard_is : AllIn made heard
 
-  not_of_in : (h : ℕ) (bs : List (Bundle O)) → AllIn bs (not_of h bs)
+  pub not_of_in : (h : ℕ) (bs : List (Bundle O)) → AllIn bs (not_of h bs)
   unfolding not_of
   not_of_in h [] b m = m
   not_of_in h (c ∷ bs) b m = go (not_of_in h bs b) m
@@ -74,7 +74,7 @@ module _ {O : Type 0} where
           by_test (λ z. Memᴰ b z → Memᴰ b (c ∷ bs)) (c.house == h) (λ _ n. Memᴰ.tail (f n))
           (λ _ n. elim (Memᴰ.cases_cons n) [ inl e ↦ Memᴰ.head e | inr l ↦ Memᴰ.tail (f l) ])
 
-  undone_in : {A : Type 0} (bs : List (Bundle O)) (done : ℕ → Session A) → AllIn bs (undone bs done)
+  pub undone_in : {A : Type 0} (bs : List (Bundle O)) (done : ℕ → Session A) → AllIn bs (undone bs done)
   unfolding undone
   undone_in [] done b m = m
   undone_in (c ∷ bs) done b m = go (undone_in bs done b) m
@@ -311,7 +311,7 @@ module _ {X B O A : Type 0} where
 
 module _ {O R : Type 0} (sv : Service O R) (kp : Keeper sv) where
   module _ (made : List (Bundle O)) where
-    runs_many : (v : ℕ) (xs : List (Item O)) (r : sv.Rest) (s : kp.Kept) → length (runs sv kp v xs r s).replies ≡ length xs
+    pub runs_many : (v : ℕ) (xs : List (Item O)) (r : sv.Rest) (s : kp.Kept) → length (runs sv kp v xs r s).replies ≡ length xs
     unfolding runs
     runs_many v [] r s = refl
     runs_many v (x ∷ xs) r s = let z = runs_many v xs (sv.next x.call r (kp.look s)) (kp.write (sv.next x.call r (kp.look s)) v (sv.changes x.call r (kp.look s)) s) in omega arith

@@ -41,3 +41,9 @@ pub mod Rounds
 pub mod Attempts
 pub mod Open
 pub mod Answered
+pub mod Small
+pub mod SmallTurns
+pub mod SmallEvents
+pub mod SmallWorlds
+pub mod Admitted
+pub mod AnsweredWithin

@@ -82,7 +82,7 @@ module _ {O R : Type 0} (sv : Service O R) (kp : Keeper sv) where
       go (takes r x) = stow r x (kp.take w.rest x.whole x.asked.key (next_key x.tail) x.floor x.blocks w.kept)
       go (replaces x) = refl
 
-  got_incarnation : (r : ℕ) (x : Messages sv kp) (w : Wholes sv kp) → (got sv kp r x w).incarnation ≡ w.incarnation
+  pub got_incarnation : (r : ℕ) (x : Messages sv kp) (w : Wholes sv kp) → (got sv kp r x w).incarnation ≡ w.incarnation
   got_incarnation r (Bundled b) w = refl
   got_incarnation r (Done s) w = refl
   got_incarnation r (Told x) w = works_incarnation _
