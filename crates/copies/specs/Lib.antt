@@ -3,3 +3,4 @@ pub mod Messages
 pub mod Copy
 pub mod House
 pub mod Promise
+pub mod Views

@@ -1,2 +1,11 @@
 // Three copies of a service that agree, and the houses that have them: what each does at each event, on values.
 #![tactic(auto)]
+
+pub mod agreeing;
+pub mod group;
+pub mod memory;
+pub mod message;
+pub mod number;
+pub mod service;
+pub mod sessions;
+pub mod turn;

@@ -1,0 +1,32 @@
+// What a house remembers, until its power fails.
+use crate::message::{Bundle, Item};
+use crate::number::*;
+
+// Which versions the parts of a pass were of.
+#[derive(Clone, Copy, PartialEq, Eq)]
+pub struct Span {
+    pub low: Version,
+    pub high: Version,
+}
+
+// A pass over all blocks: where it is, the versions of its parts, and whether something was asked for since the last tick.
+#[derive(Clone, Copy, PartialEq, Eq)]
+pub struct Pass {
+    pub key: Key,
+    pub span: Option<Span>,
+    pub asked: bool,
+}
+
+// lead: the ballot that it leads; quiet: how many ticks it has heard no leader; waiting: calls that aren't sent yet; way: the bundle under
+// way; heard: bundles heard, one for each house, the newest first.
+#[derive(Drop)]
+pub struct Memory<C> {
+    pub me: HouseNumber,
+    pub number: Number,
+    pub lead: Option<Ballot>,
+    pub quiet: u64,
+    pub waiting: Vec<Item<C>>,
+    pub way: Option<Bundle<C>>,
+    pub heard: Vec<Bundle<C>>,
+    pub pass: Pass,
+}

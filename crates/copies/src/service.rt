@@ -1,0 +1,10 @@
+// What a service's calls and replies must be, and the service itself.
+ghost use Rattle.std.specs.Prelude.{◌≡◌, IfOk};
+
+use std::alloc::{AllocError, Global};
+
+// A value of which a second one can be made.
+pub trait Copied: Drop {
+    fn copied(&self, heap: Global) -> Result<Self, AllocError>
+        ensures { IfOk result (λ x. x ≡ self.now) };
+}
