@@ -1,5 +1,10 @@
 // What a copy stores of the agreement.
-use crate::message::Bundle;
+ghost use Rattle.std.specs.Prelude.{◌≡◌, ◌==◌, ◌<◌, ◌^◌, suc};
+ghost use Rattle.agreement.specs.Copies.{rank, higher};
+ghost use Rattle.copies.specs.Tests.{learns};
+ghost use Rattle.copies.specs.Views.{the_proposal, the_status, the_agreeing};
+
+use crate::message::{Bundle, Status};
 use crate::number::*;
 
 // The bundles that are done together.
@@ -29,4 +34,36 @@ pub struct Agreeing<C> {
     pub last: Ballot,
     pub proposal: Option<Proposal<C>>,
     pub recovery: Recovery,
+}
+
+impl<C: Drop> Proposal<C> {
+    // Of two, that under the higher ballot, or the first.
+    pub(crate) fn higher(mine: Option<Proposal<C>>, theirs: Option<Proposal<C>>) -> Option<Proposal<C>>
+        ensures { the_proposal result ≡ higher (the_proposal mine) (the_proposal theirs) }
+    {
+        match (&mine, &theirs) {
+            (None, _) => theirs,
+            (Some(a), Some(b)) if a.ballot < b.ballot => theirs,
+            _ => mine,
+        }
+    }
+}
+
+impl<C> Agreeing<C> {
+    pub(crate) fn has_proposed_under(&self, ballot: Ballot) -> bool
+        ensures { result ≡ (rank (the_agreeing self.now).proposal == suc ballot.0) }
+    {
+        matches!(&self.proposal, Some(proposal) if proposal.ballot == ballot)
+    }
+
+    // Is that copy ahead by one, and did it apply what is proposed here?
+    pub(crate) fn learns(&self, status: &Status<C>) -> bool
+        requires { self.now.version.0 < 2 ^ 62 }
+        ensures { result ≡ learns (the_status status.now) (the_agreeing self.now).proposal (the_agreeing self.now) }
+    {
+        match &self.proposal {
+            Some(mine) => status.version == self.version.next() && status.last <= mine.ballot,
+            None => false,
+        }
+    }
 }

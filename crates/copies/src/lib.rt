@@ -8,4 +8,5 @@ pub mod message;
 pub mod number;
 pub mod service;
 pub mod sessions;
+pub mod status;
 pub mod turn;

@@ -1,4 +1,8 @@
 // What a house remembers, until its power fails.
+ghost use Rattle.std.specs.Prelude.{◌≡◌};
+ghost use Rattle.copies.specs.Copy.{new_pass};
+ghost use Rattle.copies.specs.Views.{the_pass};
+
 use crate::message::{Bundle, Item};
 use crate::number::*;
 
@@ -29,4 +33,17 @@ pub struct Memory<C> {
     pub way: Option<Bundle<C>>,
     pub heard: Vec<Bundle<C>>,
     pub pass: Pass,
+}
+
+impl Pass {
+    // A new one, for which it is asked at once.
+    pub(crate) fn begun() -> Pass
+        ensures { the_pass result ≡ new_pass }
+    {
+        Pass {
+            key: Key(0),
+            span: None,
+            asked: true,
+        }
+    }
 }

@@ -1,5 +1,5 @@
 // Numbers that must not be mixed, each a type of its own.
-ghost use Rattle.std.specs.Prelude.{◌≡◌, min, max};
+ghost use Rattle.std.specs.Prelude.{◌≡◌, ◌<◌, ◌^◌, suc, min, max};
 ghost use Rattle.copies.specs.Messages.{above};
 
 // A house, from 0. Houses 0, 1 and 2 have copies.
@@ -38,6 +38,13 @@ impl Ballot {
 }
 
 impl Version {
+    pub(crate) fn next(self) -> Version
+        requires { self.0 < 2 ^ 62 }
+        ensures { result.0 ≡ suc self.0 }
+    {
+        Version(self.0 + 1)
+    }
+
     pub(crate) fn lower(self, other: Version) -> Version
         ensures { result.0 ≡ min self.0 other.0 }
     {

@@ -1,6 +1,10 @@
 // A house in the midst of an event: what it has, and what is to be told, sent and done.
+ghost use Rattle.std.specs.Prelude.{◌≡◌};
+ghost use Rattle.copies.specs.Copy.{also, saying_to, saying, wanting, passing, agreed, raised, telling};
+ghost use Rattle.copies.specs.Views.{the_whom, the_pass, the_turn};
+
 use crate::agreeing::{Agreeing, Command};
-use crate::memory::Memory;
+use crate::memory::{Memory, Pass};
 use crate::message::{Part, Reply, Want};
 use crate::number::*;
 use crate::sessions::Sessions;
@@ -53,4 +57,59 @@ pub struct Turn<X, B, C, A> {
     pub told: Vec<Reply<A>>,
     pub sends: Sends,
     pub work: Work<X, B, C, A>,
+}
+
+impl Whom {
+    // That house too.
+    fn also(self, to: HouseNumber) -> Whom
+        ensures { the_whom result ≡ also to.0 (the_whom self) }
+    {
+        match self {
+            Whom::Others => Whom::Others,
+            _ => Whom::One(to),
+        }
+    }
+}
+
+impl<X: Drop, B: Drop, C: Drop, A: Drop> Turn<X, B, C, A> {
+    pub(crate) fn saying_to(mut self, to: HouseNumber) -> Self
+        ensures { the_turn result ≡ saying_to to.0 (the_turn self) }
+    {
+        self.sends.status = self.sends.status.also(to);
+        self
+    }
+
+    pub(crate) fn saying(mut self) -> Self
+        ensures { the_turn result ≡ saying (the_turn self) }
+    {
+        self.sends.status = Whom::Others;
+        self
+    }
+
+    pub(crate) fn wanting(mut self, of: HouseNumber) -> Self
+        ensures { the_turn result ≡ wanting of.0 (the_turn self) }
+    {
+        self.sends.wants = Some(of);
+        self
+    }
+
+    pub(crate) fn passing(mut self, pass: Pass) -> Self
+        ensures { the_turn result ≡ passing (the_pass pass) (the_turn self) }
+    {
+        self.house.memory.pass = pass;
+        self
+    }
+
+    pub(crate) fn raised(mut self, promised: Ballot) -> Self
+        ensures { the_turn result ≡ agreed (raised promised.0 (the_turn self).agreeing) (the_turn self) }
+    {
+        self.house.agreeing.promised = promised;
+        self
+    }
+
+    pub(crate) fn telling(self, to: HouseNumber, promised: Ballot) -> Self
+        ensures { the_turn result ≡ telling to.0 promised.0 (the_turn self) }
+    {
+        self.saying_to(to).raised(promised)
+    }
 }
