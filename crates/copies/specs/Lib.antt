@@ -4,4 +4,4 @@ pub mod Copy
 pub mod House
 pub mod Promise
 pub mod Views
-pub mod Tests
+pub mod Steps

@@ -1,7 +1,7 @@
 // What a copy stores of the agreement.
 ghost use Rattle.std.specs.Prelude.{◌≡◌, ◌==◌, ◌<◌, ◌^◌, suc};
 ghost use Rattle.agreement.specs.Copies.{rank, higher};
-ghost use Rattle.copies.specs.Tests.{learns};
+ghost use Rattle.copies.specs.Steps.{learns};
 ghost use Rattle.copies.specs.Views.{the_proposal, the_status, the_agreeing};
 
 use crate::message::{Bundle, Status};
