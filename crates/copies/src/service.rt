@@ -8,3 +8,13 @@ pub trait Copied: Drop {
     fn copied(&self, heap: Global) -> Result<Self, AllocError>
         ensures { IfOk result (λ x. x ≡ self.now) };
 }
+
+pub(crate) fn all_copied<T: Copied>(items: &[T], heap: Global) -> Result<Vec<T>, AllocError>
+    ensures { IfOk result (λ v. v.items ≡ items.now) }
+{
+    let mut all = Vec::new(heap);
+    for item in items {
+        all.push(item.copied(heap)?)?;
+    }
+    Ok(all)
+}
