@@ -3,10 +3,11 @@ ghost use Rattle.std.specs.Prelude.{◌≡◌, IfOk, MatchOption, cond, nat_lt};
 ghost use Rattle.disks.specs.Cluster.{put};
 ghost use Rattle.copies.specs.Messages.{unused};
 ghost use Rattle.copies.specs.Copy.{is_new};
-ghost use Rattle.copies.specs.Views.{the_bundle, the_session, the_sessions};
+ghost use Rattle.copies.specs.Views.{the_bundle, the_replies, the_session, the_sessions};
 
-use crate::message::{Bundle, Session};
+use crate::message::{Bundle, Reply, Session};
 use crate::number::*;
+use crate::service::{Copied, all_copied};
 use crate::sessions::{MOST_HOUSES, Sessions};
 use std::alloc::{AllocError, Global};
 
@@ -68,6 +69,17 @@ impl<A: Drop> Sessions<A> {
     {
         if house.0 < MOST_HOUSES {
             self.each[house.0 as usize] = session;
+        }
+    }
+}
+
+impl<A: Copied> Sessions<A> {
+    pub(crate) fn replies_of(&self, house: HouseNumber, heap: Global) -> Result<Vec<Reply<A>>, AllocError>
+        ensures { IfOk result (λ rs. the_replies rs.items ≡ (the_sessions self.now house.0).replies) }
+    {
+        match self.of(house) {
+            Some(session) => all_copied(session.replies.as_slice(), heap),
+            None => Ok(Vec::new(heap)),
         }
     }
 }
