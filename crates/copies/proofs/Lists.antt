@@ -1,12 +1,23 @@
 -- What lists of bundles stand for.
-use Rattle.std.proofs.Common.{◌≡◌, ℕ, zero, suc, ◌+◌, ◌<◌, Bool, true, false, cond, not, ◌==◌, List, [], ◌∷◌, ◌++◌, length, take, get_or, map, filter, insert, refl, ◌∙◌, sym, ap, add-one, append-nil, arith}
+use Rattle.std.proofs.Common.{◌≡◌, ℕ, zero, suc, ◌+◌, ◌<◌, Bool, true, false, cond, not, ◌==◌, List, [], ◌∷◌, ◌++◌, length, take, get_or, map, filter, insert, count_by, fold, ◌&&◌, refl, ◌∙◌, sym, ap, add-one, append-nil, arith}
 use Rattle.std.proofs.lemmas.List.{map-append}
 use Rattle.std.proofs.lemmas.Bool.Decides.{nat_tests}
+use Rattle.std.specs.List.{list_all}
 use Rattle.copies.specs.Messages.{Session}
+use Rattle.copies.specs.Messages.{Bundle as BundleOf}
+use Rattle.copies.specs.Admits.{bundle_fits, is_only, command_fits}
 use Rattle.copies.specs.Copy.{is_nil, is_new, houses_of, not_of, undone}
 use Rattle.copies.specs.Views.{the_house, the_items, the_bundle, the_bundles}
 use Rattle.copies.specs.declared.message.Bundle.{Bundle}
 use Rattle.copies.specs.declared.message.Item.{Item}
+
+fold_had : {Y Z W : Type 0} (g : W → Z → W) (f : Y → Z) (w : W) (ys : List Y) → fold g w (map f ys) ≡ fold (λ a y. g a (f y)) w ys
+fold_had g f w [] = refl
+fold_had g f w (y ∷ ys) = fold_had g f (g w (f y)) ys
+
+all_had : {Y Z : Type 0} (p : Z → Bool) (f : Y → Z) (ys : List Y) → list_all p (map f ys) ≡ list_all (λ y. p (f y)) ys
+all_had p f [] = refl
+all_had p f (y ∷ ys) = ap (λ (z : Bool). p (f y) && z) (all_had p f ys)
 
 module _ {C : Type 0} where
   pub houses_had : (bs : List (Bundle C)) → map the_house (map (λ b. b.house) bs) ≡ houses_of (the_bundles bs)
@@ -30,6 +41,12 @@ module _ {C : Type 0} where
   pub items_nil : (is : List (Item C)) → is_nil (the_items is) ≡ (length is == 0)
   items_nil [] = refl
   items_nil (i ∷ is) = let e : (length (i ∷ is) == 0) ≡ false = grind (arith, nat_tests) in rw e refl
+
+  count_had : (h : ℕ) (bs : List (Bundle C)) → count_by (λ c. c.house == h) (the_bundles bs) ≡ count_by (λ c. c.house.0 == h) bs
+  count_had h bs = fold_had (λ (a : ℕ) (c : BundleOf C). a + cond (c.house == h) 1 0) the_bundle 0 bs
+
+  pub command_had : (bs : List (Bundle C)) → list_all (λ b. bundle_fits (the_bundle b) && (count_by (λ c. c.house.0 == b.house.0) bs == 1)) bs ≡ command_fits (the_bundles bs)
+  command_had bs = sym (all_had (λ b. bundle_fits b && is_only (the_bundles bs) b) the_bundle bs ∙ ap (λ (f : Bundle C → ℕ). list_all (λ b. bundle_fits (the_bundle b) && (f b == 1)) bs) (λ i b. count_had b.house.0 bs i))
 
 module _ {C A : Type 0} (done : ℕ → Session A) where
   pub undone_none : undone {O = C} [] done ≡ []

@@ -5,3 +5,4 @@ pub mod House
 pub mod Promise
 pub mod Views
 pub mod Steps
+pub mod Admits

@@ -1,6 +1,7 @@
 // Three copies of a service that agree, and the houses that have them: what each does at each event, on values.
 #![tactic(auto)]
 
+pub mod admit;
 pub mod agreeing;
 pub mod bundle;
 pub mod done;
