@@ -6,3 +6,5 @@ pub mod Promise
 pub mod Views
 pub mod Steps
 pub mod Admits
+pub mod Events
+pub mod Runs

@@ -155,7 +155,8 @@ impl<X: Drop, B: Drop, C: Copied, A: Copied> Turn<X, B, C, A> {
 
     #[tactic(auto, using(crate::proofs::Cases::settle_then, crate::proofs::Cases::settle_else))]
     pub(crate) fn settle(self, session: Session<A>) -> Self
-        ensures { the_turn result ≡ settle (the_session session) (the_turn self).memory.way (the_turn self) }
+        ensures same { result.house.memory.number ≡ self.house.memory.number }
+        ensures value { the_turn result ≡ settle (the_session session) (the_turn self).memory.way (the_turn self) }
     {
         if self.is_under_way(session.number) {
             self.freed(session.replies)
@@ -220,7 +221,8 @@ impl<X: Drop, B: Drop, C: Copied, A: Copied> Turn<X, B, C, A> {
     }
 
     pub(crate) fn queued(mut self, id: CallNumber, call: C) -> Result<Self, AllocError>
-        ensures { IfOk result (λ t. the_turn t ≡ queued id.0 call (the_turn self)) }
+        ensures same { IfOk result (λ t. t.house.memory.number ≡ self.house.memory.number) }
+        ensures value { IfOk result (λ t. the_turn t ≡ queued id.0 call (the_turn self)) }
     {
         self.house.memory.waiting.push(Item { id, call })?;
         Ok(self)

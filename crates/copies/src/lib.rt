@@ -5,6 +5,7 @@ pub mod admit;
 pub mod agreeing;
 pub mod bundle;
 pub mod done;
+pub mod event;
 pub mod group;
 pub mod memory;
 pub mod message;
