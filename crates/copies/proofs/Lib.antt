@@ -2,3 +2,4 @@ pub mod Lists
 pub mod Cases
 pub mod ByHouse
 pub mod Ready
+pub mod Exec

@@ -10,6 +10,24 @@ pub trait Copied: Drop {
         ensures { IfOk result (λ x. x ≡ self.now) };
 }
 
+// A service, by what it replies and how it goes on.
+pub trait Service {
+    type Call: Copied;
+    type Reply: Copied;
+    type Error: From<AllocError>;
+
+    ghost State: { Type 0 };
+
+    ghost state: { Self → Self.State };
+
+    ghost reply: { Self.Call → Self.State → Self.Reply };
+
+    ghost next: { Self.Call → Self.State → Self.State };
+
+    fn exec(&mut self, call: &Self::Call) -> Result<Self::Reply, Self::Error>
+        ensures { IfOk result (λ a. (a ≡ Self.reply call.now (Self.state self.old)) × (Self.state self.new ≡ Self.next call.now (Self.state self.old))) };
+}
+
 pub(crate) fn all_copied<T: Copied>(items: &[T], heap: Global) -> Result<Vec<T>, AllocError>
     ensures { IfOk result (λ v. v.items ≡ items.now) }
 {
