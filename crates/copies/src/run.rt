@@ -1,5 +1,5 @@
 // A command is done: each call of each bundle that is new, and its house's session.
-ghost use Rattle.std.specs.Prelude.{◌≡◌, IfOk, OnOk};
+ghost use Rattle.std.specs.Prelude.{◌≡◌, [], ◌∷◌, ◌++◌, IfOk, OnOk, vec_items};
 ghost use Rattle.copies.specs.Runs.{left, replied, ran, bundle_run, command_run};
 ghost use Rattle.copies.specs.Views.{the_items, the_replies, the_bundle, the_command, the_sessions};
 
@@ -9,6 +9,13 @@ use crate::service::Service;
 use crate::sessions::Sessions;
 use std::alloc::{AllocError, Global};
 
+fn add<T: Drop>(all: &mut Vec<T>, one: T) -> Result<(), AllocError>
+    ensures { OnOk result (vec_items all.new ≡ vec_items all.old ++ one ∷ []) }
+{
+    all.push(one)?;
+    Ok(())
+}
+
 // What the calls are replied, one after the other.
 fn replies_to<S: Service>(service: &mut S, calls: &[Item<S::Call>], heap: Global) -> Result<Vec<Reply<S::Reply>>, S::Error>
     ensures { IfOk result (λ rs. (the_replies rs.items ≡ replied S.reply S.next (the_items calls.now) (S.state service.old)) × (S.state service.new ≡ left S.next (the_items calls.now) (S.state service.old))) }
@@ -16,9 +23,7 @@ fn replies_to<S: Service>(service: &mut S, calls: &[Item<S::Call>], heap: Global
     let mut replies = Vec::new(heap);
     for item in calls {
         let reply = service.exec(&item.call)?;
-        replies
-            .push(Reply { id: item.id, reply })
-            .map_err(AllocError::from)?;
+        add(&mut replies, Reply { id: item.id, reply })?;
     }
     Ok(replies)
 }
