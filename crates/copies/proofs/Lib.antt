@@ -3,3 +3,4 @@ pub mod Cases
 pub mod ByHouse
 pub mod Ready
 pub mod Exec
+pub mod Told

@@ -7,6 +7,7 @@ use Rattle.copies.specs.Admits.{is_ready, is_house}
 use Rattle.copies.specs.Views.{the_agreeing, the_sessions, the_memory, the_turn, the_way}
 use Rattle.copies.specs.declared.number.HouseNumber.{HouseNumber}
 use Rattle.copies.specs.declared.turn.House.{House}
+use Rattle.copies.specs.declared.turn.Turn.{Turn as TurnHad}
 use Rattle.copies.specs.declared.event.Heard.{Heard}
 use Rattle.copies.specs.declared.event.Heard.TheVariants.{Passed, Begun}
 use Rattle.copies.specs.declared.event.Called.{Called}
@@ -31,6 +32,24 @@ module _ {X B C A : Type 0} where
   Calls ok full f h (called.Passed g) = (ok ≡ false) × (g ≡ h)
   Calls ok full f h (called.Busy g) = (ok ≡ true) × (full ≡ true) × (g ≡ h)
   Calls ok full f h (called.Begun t) = (ok ≡ true) × (full ≡ false) × (the_turn t ≡ f (begun h))
+
+  -- what isn't named for storing is as it was
+  abbrev pub Kept : House C A → TurnHad X B C A → Type 0
+  Kept h t = (t.stores.agreeing ≡ false → the_agreeing t.house.agreeing ≡ the_agreeing h.agreeing) × (t.stores.sessions ≡ false → the_sessions t.house.sessions ≡ the_sessions h.sessions)
+
+  abbrev pub KeptSince : TurnHad X B C A → TurnHad X B C A → Type 0
+  KeptSince s t =
+      (t.stores.agreeing ≡ false → (s.stores.agreeing ≡ false) × (the_agreeing t.house.agreeing ≡ the_agreeing s.house.agreeing)) ×
+      (t.stores.sessions ≡ false → (s.stores.sessions ≡ false) × (the_sessions t.house.sessions ≡ the_sessions s.house.sessions))
+
+  abbrev pub HearsKept : House C A → Heard X B C A → Type 0
+  HearsKept h (Passed g) = Unit {0}
+  HearsKept h (Begun t) = Kept h t
+
+  abbrev pub CallsKept : House C A → Called X B C A → Type 0
+  CallsKept h (called.Passed g) = Unit {0}
+  CallsKept h (called.Busy g) = Unit {0}
+  CallsKept h (called.Begun t) = Kept h t
 
 module _ {C A : Type 0} where
   -- the house's own numbers leave room

@@ -2,14 +2,25 @@
 -- Assumes nothing.
 use Rattle.std.specs.Prelude.{ℕ, suc, Bool, false, cond, ◌&&◌, List, nat_le, ◌==◌}
 use Rattle.agreement.specs.Copies.{Proposal, nothing, voted, rank}
-use Rattle.copies.specs.Messages.{Command, Reply, Session, is_level, Agreeing, Status}
+use Rattle.copies.specs.Messages.{Command, Reply, Session, Recovery, is_level, Agreeing, Status}
 use Rattle.copies.specs.Copy.{Way, free, under, Turn, is_copy, saying_to, ended, adopted, replaces}
+
+-- all of what a copy agrees on but the command that it proposes
+pub record Marks : Type 0 where
+  pub promised : ℕ
+  pub version : ℕ
+  pub last : ℕ
+  pub ballot : ℕ
+  pub recovery : Recovery
 
 module _ {O : Type 0} where
   -- is the sender ahead by one, and did it apply what is proposed here?
   abbrev pub learns : Status O → Proposal (Command O) → Agreeing O → Bool
   learns x nothing a = false
   learns x (voted b k) a = x.version == suc a.version && nat_le x.last b
+
+  abbrev pub marks : Agreeing O → Marks
+  marks a = record { promised = a.promised; version = a.version; last = a.last; ballot = rank a.proposal; recovery = a.recovery }
 
   -- is it the number of the bundle under way?
   abbrev pub is_way : (incarnation counter : ℕ) → Way O → Bool

@@ -5,6 +5,7 @@ use Rattle.agreement.specs.Copies.{Proposal, nothing, voted}
 use Rattle.copies.specs.Service.{Stamped}
 use Rattle.copies.specs.Messages.{Item, Bundle, Command, Reply, Session, Recovery, level, recovers, Agreeing, Status, Want, Part, Tail, more, ends, unused}
 use Rattle.copies.specs.Copy.{Way, free, under, Span, unseen, from_to, Pass, Memory, Whom, nobody, one, others, Serve, Sends, Work, rests, applies, takes, replaces, Turn}
+use Rattle.copies.specs.Steps.{Marks}
 use Rattle.copies.specs.declared.number.HouseNumber.{HouseNumber}
 use Rattle.copies.specs.declared.number.Ballot.{Ballot}
 use Rattle.copies.specs.declared.message.Item.{Item as ItemHad}
@@ -23,6 +24,7 @@ use Rattle.copies.specs.declared.agreeing.Proposal.{Proposal as ProposalHad}
 use Rattle.copies.specs.declared.agreeing.Recovery.{Recovery as RecoveryHad}
 use Rattle.copies.specs.declared.agreeing.Recovery.TheVariants.{Level, Recovers}
 use Rattle.copies.specs.declared.agreeing.Agreeing.{Agreeing as AgreeingHad}
+use Rattle.copies.specs.declared.agreeing.Marks.{Marks as MarksHad}
 use Rattle.copies.specs.declared.memory.Span.{Span as SpanHad}
 use Rattle.copies.specs.declared.memory.Pass.{Pass as PassHad}
 use Rattle.copies.specs.declared.memory.Memory.{Memory as MemoryHad}
@@ -87,6 +89,9 @@ the_recovery (Recovers a t) = recovers a.0 t.0
 module _ {C : Type 0} where
   abbrev pub the_agreeing : AgreeingHad C → Agreeing C
   the_agreeing a = record { promised = a.promised.0; version = a.version.0; last = a.last.0; proposal = the_proposal a.proposal; recovery = the_recovery a.recovery }
+
+abbrev pub the_marks : MarksHad → Marks
+the_marks m = record { promised = m.promised.0; version = m.version.0; last = m.last.0; ballot = the_lead m.ballot; recovery = the_recovery m.recovery }
 
 module _ {A : Type 0} where
   abbrev pub the_reply : ReplyHad A → Reply A

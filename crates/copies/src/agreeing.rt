@@ -1,8 +1,9 @@
 // What a copy stores of the agreement.
 ghost use Rattle.std.specs.Prelude.{◌≡◌, ◌==◌, ◌<◌, ◌^◌, suc};
+ghost use Rattle.std.specs.Bool.{OnTrue};
 ghost use Rattle.agreement.specs.Copies.{rank, higher};
-ghost use Rattle.copies.specs.Steps.{learns};
-ghost use Rattle.copies.specs.Views.{the_proposal, the_status, the_agreeing};
+ghost use Rattle.copies.specs.Steps.{learns, marks};
+ghost use Rattle.copies.specs.Views.{the_proposal, the_status, the_agreeing, the_marks};
 
 use crate::message::{Bundle, Status};
 use crate::number::*;
@@ -65,5 +66,40 @@ impl<C> Agreeing<C> {
             Some(mine) => status.version == self.version.next() && status.last <= mine.ballot,
             None => false,
         }
+    }
+
+    // All but the command that is proposed.
+    pub(crate) fn marks(&self) -> Marks
+        ensures { the_marks result ≡ marks (the_agreeing self.now) }
+    {
+        let ballot = match &self.proposal {
+            Some(proposal) => Some(proposal.ballot),
+            None => None,
+        };
+        Marks {
+            promised: self.promised,
+            version: self.version,
+            last: self.last,
+            ballot,
+            recovery: self.recovery,
+        }
+    }
+}
+
+// What tells whether it changed: all but the command that is proposed, which changes only with its ballot or the version.
+#[derive(Clone, Copy, PartialEq, Eq)]
+pub(crate) struct Marks {
+    promised: Ballot,
+    version: Version,
+    last: Ballot,
+    ballot: Option<Ballot>,
+    recovery: Recovery,
+}
+
+impl Marks {
+    pub(crate) fn are(self, others: Marks) -> bool
+        ensures { OnTrue result (the_marks self ≡ the_marks others) }
+    {
+        self == others
     }
 }

@@ -3,14 +3,14 @@
 ghost use Rattle.std.specs.Prelude.{◌≡◌, ◌&&◌, [], IfOk, cond};
 ghost use Rattle.copies.specs.Copy.{rests, on_bundle, on_status, on_want, on_part, on_tick, queued, pack, forward, goes_on};
 ghost use Rattle.copies.specs.Admits.{fits, bundle_fits, session_fits, status_fits, want_fits, part_fits};
-ghost use Rattle.copies.specs.Events.{begun, settles, Hears, Calls, house_ready, admits_from, is_full};
+ghost use Rattle.copies.specs.Events.{begun, settles, Hears, HearsKept, Calls, CallsKept, KeptSince, house_ready, admits_from, is_full};
 ghost use Rattle.copies.specs.Views.{the_bundle, the_session, the_status, the_want, the_part, the_work, the_turn};
 
 use crate::admit::fits;
 use crate::message::{Bundle, Part, Session, Status, Want};
 use crate::number::*;
 use crate::service::Copied;
-use crate::turn::{House, Sends, Turn, Whom, Work};
+use crate::turn::{House, Sends, Stores, Turn, Whom, Work};
 use std::alloc::{AllocError, Global};
 use std::mem;
 
@@ -45,6 +45,7 @@ impl<C: Copied, A: Copied> House<C, A> {
                 serves: None,
             },
             work: Work::Rests,
+            stores: Stores::nothing(),
         }
     }
 
@@ -54,55 +55,62 @@ impl<C: Copied, A: Copied> House<C, A> {
         self.is_ready() && from.is_house()
     }
 
+    #[tactic(auto, using(crate::proofs::Told::told_bundle))]
     pub fn hears_bundle<X: Drop, B: Drop>(
         self,
         heap: Global,
         from: HouseNumber,
         bundle: Bundle<C>,
     ) -> Result<Heard<X, B, C, A>, AllocError>
-        ensures { IfOk result (Hears (admits_from self from && bundle_fits (the_bundle bundle)) (λ t. forward (on_bundle (the_bundle bundle) t)) self) }
+        ensures kept { IfOk result (HearsKept self) }
+        ensures value { IfOk result (Hears (admits_from self from && bundle_fits (the_bundle bundle)) (λ t. forward (on_bundle (the_bundle bundle) t)) self) }
     {
         if !self.admits(from) || !bundle.is_fit() {
             return Ok(Heard::Passed(self));
         }
+        let before = self.agreeing.marks();
         let turn = self.begins(heap).on_bundle(bundle)?.forward(heap)?;
-        Ok(Heard::Begun(turn))
+        Ok(Heard::Begun(turn.noting(Stores::nothing(), before)))
     }
 
-    #[tactic(auto, using(crate::proofs::Ready::ready_counter))]
+    #[tactic(auto, using(crate::proofs::Ready::ready_counter, crate::proofs::Told::told_replies))]
     pub fn hears_replies<X: Drop, B: Drop>(
         self,
         heap: Global,
         from: HouseNumber,
         session: Session<A>,
     ) -> Result<Heard<X, B, C, A>, AllocError>
-        ensures { IfOk result (Hears (admits_from self from && session_fits (the_session session)) (settles (the_session session)) self) }
+        ensures kept { IfOk result (HearsKept self) }
+        ensures value { IfOk result (Hears (admits_from self from && session_fits (the_session session)) (settles (the_session session)) self) }
     {
         if !self.admits(from) || !session.is_fit() {
             return Ok(Heard::Passed(self));
         }
+        let before = self.agreeing.marks();
         let turn = self
             .begins(heap)
             .settle(session)
             .pack(heap)?
             .forward(heap)?;
-        Ok(Heard::Begun(turn))
+        Ok(Heard::Begun(turn.noting(Stores::nothing(), before)))
     }
 
-    #[tactic(auto, using(crate::proofs::Ready::ready_version))]
+    #[tactic(auto, using(crate::proofs::Ready::ready_version, crate::proofs::Told::told_status))]
     pub fn hears_status<X: Drop, B: Drop>(
         self,
         heap: Global,
         from: HouseNumber,
         status: Status<C>,
     ) -> Result<Heard<X, B, C, A>, AllocError>
-        ensures { IfOk result (Hears (admits_from self from && status_fits (the_status status)) (on_status from.0 (the_status status)) self) }
+        ensures kept { IfOk result (HearsKept self) }
+        ensures value { IfOk result (Hears (admits_from self from && status_fits (the_status status)) (on_status from.0 (the_status status)) self) }
     {
         if !self.admits(from) || !status.is_fit() {
             return Ok(Heard::Passed(self));
         }
+        let before = self.agreeing.marks();
         let turn = self.begins(heap).on_status(heap, from, status)?;
-        Ok(Heard::Begun(turn))
+        Ok(Heard::Begun(turn.noting(Stores::nothing(), before)))
     }
 
     pub fn hears_want<X: Drop, B: Drop>(
@@ -133,14 +141,15 @@ impl<C: Copied, A: Copied> House<C, A> {
         Heard::Begun(self.begins(heap).on_part(from, part))
     }
 
-    #[tactic(auto, using(crate::proofs::Ready::ready_counter))]
+    #[tactic(auto, using(crate::proofs::Ready::ready_counter, crate::proofs::Told::told_call))]
     pub fn is_called<X: Drop, B: Drop>(
         self,
         heap: Global,
         id: CallNumber,
         call: C,
     ) -> Result<Called<X, B, C, A>, AllocError>
-        ensures { IfOk result (Calls (house_ready self) (is_full self) (λ t. forward (pack (queued id.0 call t))) self) }
+        ensures kept { IfOk result (CallsKept self) }
+        ensures value { IfOk result (Calls (house_ready self) (is_full self) (λ t. forward (pack (queued id.0 call t))) self) }
     {
         if !self.is_ready() {
             return Ok(Called::Passed(self));
@@ -148,12 +157,13 @@ impl<C: Copied, A: Copied> House<C, A> {
         if self.memory.is_full() {
             return Ok(Called::Busy(self));
         }
+        let before = self.agreeing.marks();
         let turn = self
             .begins(heap)
             .queued(id, call)?
             .pack(heap)?
             .forward(heap)?;
-        Ok(Called::Begun(turn))
+        Ok(Called::Begun(turn.noting(Stores::nothing(), before)))
     }
 
     #[tactic(auto, using(crate::proofs::Ready::ready_counter, crate::proofs::Ready::ready_promised, crate::proofs::Ready::ready_quiet))]
@@ -178,13 +188,17 @@ impl<X: Drop, B: Drop, C: Copied, A: Copied> Turn<X, B, C, A> {
     }
 
     // When the work is done, of a status or a part: the bundle under way may be done, the next is made, what waits is proposed.
+    #[tactic(auto, using(crate::proofs::Told::told_goes_on))]
     pub fn ends(self, heap: Global) -> Result<Self, AllocError>
-        ensures { IfOk result (λ t. the_turn t ≡ cond (fits (the_turn self).memory.counter) (goes_on (the_turn self)) (the_turn self)) }
+        ensures kept { IfOk result (KeptSince self) }
+        ensures value { IfOk result (λ t. the_turn t ≡ cond (fits (the_turn self).memory.counter) (goes_on (the_turn self)) (the_turn self)) }
     {
-        if fits(self.house.memory.number.counter) {
-            self.goes_on(heap)
-        } else {
-            Ok(self)
+        if !fits(self.house.memory.number.counter) {
+            return Ok(self);
         }
+        let was = self.stores;
+        let before = self.house.agreeing.marks();
+        let turn = self.goes_on(heap)?;
+        Ok(turn.noting(was, before))
     }
 }

@@ -1,9 +1,10 @@
 // A house in the midst of an event: what it has, and what is to be told, sent and done.
-ghost use Rattle.std.specs.Prelude.{◌≡◌};
+ghost use Rattle.std.specs.Prelude.{◌≡◌, false};
 ghost use Rattle.copies.specs.Copy.{also, saying_to, saying, wanting, passing, agreed, raised, telling};
-ghost use Rattle.copies.specs.Views.{the_whom, the_pass, the_turn};
+ghost use Rattle.copies.specs.Steps.{marks};
+ghost use Rattle.copies.specs.Views.{the_whom, the_pass, the_agreeing, the_marks, the_turn};
 
-use crate::agreeing::{Agreeing, Command};
+use crate::agreeing::{Agreeing, Command, Marks};
 use crate::memory::{Memory, Pass};
 use crate::message::{Part, Reply, Want};
 use crate::number::*;
@@ -44,6 +45,13 @@ pub enum Work<X, B, C, A> {
     Replaces(X),
 }
 
+// What changed and is to be stored; what isn't named is as it was when the event began.
+#[derive(Clone, Copy, PartialEq, Eq)]
+pub struct Stores {
+    pub agreeing: bool,
+    pub sessions: bool,
+}
+
 #[derive(Drop)]
 pub struct House<C, A> {
     pub agreeing: Agreeing<C>,
@@ -57,6 +65,18 @@ pub struct Turn<X, B, C, A> {
     pub told: Vec<Reply<A>>,
     pub sends: Sends,
     pub work: Work<X, B, C, A>,
+    pub stores: Stores,
+}
+
+impl Stores {
+    pub(crate) fn nothing() -> Stores
+        ensures { result ≡ record { agreeing = false; sessions = false } }
+    {
+        Stores {
+            agreeing: false,
+            sessions: false,
+        }
+    }
 }
 
 impl Whom {
@@ -111,5 +131,18 @@ impl<X: Drop, B: Drop, C: Drop, A: Drop> Turn<X, B, C, A> {
         ensures { the_turn result ≡ telling to.0 promised.0 (the_turn self) }
     {
         self.saying_to(to).raised(promised)
+    }
+
+    // Since an event, or a part of it, began with those marks.
+    pub(crate) fn noting(mut self, was: Stores, before: Marks) -> Self
+        ensures value { the_turn result ≡ the_turn self }
+        ensures sessions { result.stores.sessions ≡ was.sessions }
+        ensures agreeing { result.stores.agreeing ≡ false → (was.agreeing ≡ false) × (marks (the_agreeing self.house.agreeing) ≡ the_marks before) }
+    {
+        self.stores = Stores {
+            agreeing: was.agreeing || !self.house.agreeing.marks().are(before),
+            sessions: was.sessions,
+        };
+        self
     }
 }
