@@ -1,11 +1,11 @@
 -- Events leave sessions alone, and what a copy agrees on changes only where its marks do: a command is proposed only under a ballot that wasn't proposed under, and is
 -- taken back only where the version rises.
-use Rattle.std.proofs.Common.{◌≡◌, ℕ, zero, suc, Bool, true, false, cond, not, ◌&&◌, ◌||◌, ◌==◌, ◌%◌, refl, sym, List, ◌∷◌, ap, ◌∙◌, max, nat_lt, nat_le, arith}
+use Rattle.std.proofs.Common.{◌≡◌, ℕ, zero, suc, Bool, true, false, cond, not, ◌&&◌, ◌||◌, ◌==◌, ◌%◌, refl, sym, subst, List, ◌∷◌, Option, Some, ap, ◌∙◌, max, nat_lt, nat_le, arith}
 use Rattle.std.proofs.lemmas.Bool.Decides.{nat_tests}
 use Rattle.agreement.specs.Copies.{Proposal, nothing, voted, rank, higher}
-use Rattle.copies.specs.Messages.{Command, Recovery, level, recovers, is_level, Agreeing, Status, Session, Bundle}
-use Rattle.copies.specs.Copy.{Turn, saying_to, wanting, passing, agreed, Way, free, under, is_free, is_nil, undone, is_copy, noted, raised, raising, recovering, applying, ahead, takes_over, may_lead, even, telling, hears, asks_on, status_of, on_status, settle, freed, settle_here, packed, pack, is_open, proposing, forward, goes_on, on_bundle, on_tick, stirs, elect, elects, resend, saying, next_ballot, patience, remembered, with_memory, queued, is_new}
-use Rattle.copies.specs.Steps.{Marks, marks}
+use Rattle.copies.specs.Messages.{Command, Recovery, level, recovers, is_level, Agreeing, Status, Session, Bundle, Want, Part, Tail, more, ends}
+use Rattle.copies.specs.Copy.{Turn, saying_to, wanting, passing, agreed, Way, free, under, is_free, is_nil, undone, is_copy, noted, raised, raising, recovering, applying, ahead, takes_over, may_lead, even, telling, hears, asks_on, status_of, on_status, settle, freed, settle_here, packed, pack, is_open, proposing, forward, goes_on, on_bundle, on_tick, stirs, elect, elects, resend, saying, next_ballot, patience, remembered, with_memory, queued, is_new, on_want, on_part, is_asked, takes, Span, unseen, from_to, passed, tail_taken, taken, widened, ended, adopted, replaces, ranging, new_pass, rests}
+use Rattle.copies.specs.Steps.{Marks, marks, is_replaced}
 
 agreeing_by : {O : Type 0} (a b : Agreeing O) → marks a ≡ marks b → a.proposal ≡ b.proposal → a ≡ b
 agreeing_by a b e p = λ i. record { promised = (e i).promised; version = (e i).version; last = (e i).last; proposal = p i; recovery = (e i).recovery }
@@ -80,8 +80,11 @@ module _ {X B O A : Type 0} where
   unfolding forward
   told_forward t u d s =
       by_test (Told t) (is_open u) (proposing (undone u.memory.heard u.sessions) u) u
-      (λ h. (d, λ e. let f : suc u.agreeing.promised ≡ rank u.agreeing.proposal = ap (λ (m : Marks). m.ballot) e ∙ ap (λ (a : Agreeing O). rank a.proposal) (sym s) in
-          let z : (rank u.agreeing.proposal == 0) ≡ true = grind arith in absurd (grind (arith, nat_tests))))
+      (λ h. (
+        d,
+        λ e. let f : suc u.agreeing.promised ≡ rank u.agreeing.proposal = ap (λ (m : Marks). m.ballot) e ∙ ap (λ (a : Agreeing O). rank a.proposal) (sym s) in
+            let z : (rank u.agreeing.proposal == 0) ≡ true = grind arith in absurd (grind (arith, nat_tests)),
+      ))
       (λ h. (d, λ e. s))
 
   abbrev Same : Turn X B O A → Turn X B O A → Type 0
@@ -138,3 +141,39 @@ module _ {X B O A : Type 0} where
 
   pub told_tick : (t : Turn X B O A) → Told t (on_tick t)
   told_tick t = told_same t (on_tick t) (tick_same t).0 (tick_same t).1
+
+  pub told_want : (r : ℕ) (w : Want) (t : Turn X B O A) → Told t (on_want r w t)
+  unfolding on_want
+  told_want r w t = by_test (Told t) (is_copy t.memory.me && is_level t.agreeing.recovery) (record t { sends = record t.sends { serves = Some (record { to = r; want = w }) } }) t (λ h. (refl, λ e. refl)) (λ h. (refl, λ e. refl))
+
+  pub told_part : (r : ℕ) (x : Part X B A) (t : Turn X B O A) → Told t (on_part r x t)
+  unfolding on_part
+  told_part r x t = by_test (Told t) (is_copy t.memory.me && (is_asked x.asked t.memory.pass t.agreeing.recovery && nat_le t.agreeing.version x.version)) (record t { work = takes r x }) t (λ h. (refl, λ e. refl)) (λ h. (refl, λ e. refl))
+
+  -- a part brings sessions only with the state's rest
+  abbrev Brings : Turn X B O A → Turn X B O A → Type 0
+  Brings t u = is_replaced u.work ≡ false → u.sessions ≡ t.sessions
+
+  passed_brings : (r p : ℕ) (x : Part X B A) (rest : X) (done : ℕ → Session A) (s : Span) (t : Turn X B O A) → Brings t (passed r p x rest done s t)
+  unfolding passed
+  passed_brings r p x rest done unseen t = λ e. refl
+  passed_brings r p x rest done (from_to l h) t =
+      by_test (Brings t) (l == h)
+      (record (saying_to r t) { agreeing = cond (x.version == t.agreeing.version) (ended p t.agreeing) (adopted p x.version x.last t.agreeing); sessions = done; work = replaces rest })
+      (wanting r (passing new_pass (agreed (ranging p l h t.agreeing) t)))
+      (λ k e. cc) (λ k e. refl)
+
+  tail_brings : (r p : ℕ) (x : Part X B A) (y : Tail X A) (v : Recovery) (t : Turn X B O A) → Brings t (tail_taken r p x y v t)
+  unfolding tail_taken
+  tail_brings r p x y level t = λ e. refl
+  tail_brings r p x (more k) (recovers a b) t = λ e. refl
+  tail_brings r p x (ends rest done) (recovers a b) t = passed_brings r p x rest done (widened x.version t.memory.pass.span) t
+
+  taken_brings : (r : ℕ) (x : Part X B A) (t : Turn X B O A) → Brings t (taken r x t)
+  taken_brings r x t = tail_brings r (max t.agreeing.promised x.promised) x x.tail t.agreeing.recovery (record t { work = rests })
+
+  pub brought : (r : ℕ) (x : Part X B A) (t u : Turn X B O A) → u ≡ taken r x t → is_replaced u.work ≡ false → u.sessions ≡ t.sessions
+  brought r x t u e = subst (λ (v : Turn X B O A). Brings t v) (sym e) (taken_brings r x t)
+
+  pub kept_of : (t u v : Turn X B O A) → Told t v → u ≡ v → Told t u
+  kept_of t u v k e = subst (λ (w : Turn X B O A). Told t w) (sym e) k

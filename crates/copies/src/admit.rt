@@ -51,9 +51,7 @@ impl<C> Command<C> {
     fn are_fit(&self) -> bool
         ensures { result ≡ list_all (λ b. bundle_fits (the_bundle b) && (count_by (λ c. c.house.0 == b.house.0) (vec_items self.now.0) == 1)) (vec_items self.now.0) }
     {
-        self.0
-            .iter()
-            .all(|bundle| bundle.is_fit() && self.count_of(bundle.house) == 1)
+        self.0.iter().all(|bundle| bundle.is_fit() && self.count_of(bundle.house) == 1)
     }
 
     fn is_fit(&self) -> bool
@@ -76,10 +74,7 @@ impl<C> Status<C> {
     pub(crate) fn is_fit(&self) -> bool
         ensures { result ≡ status_fits (the_status self.now) }
     {
-        fits(self.promised.0)
-            && fits(self.version.0)
-            && fits(self.last.0)
-            && self.is_proposal_fit()
+        fits(self.promised.0) && fits(self.version.0) && fits(self.last.0) && self.is_proposal_fit()
     }
 }
 
@@ -105,10 +100,7 @@ impl<X, B, A> Part<X, B, A> {
     pub(crate) fn is_fit(&self) -> bool
         ensures { result ≡ part_fits (the_part self.now) }
     {
-        self.asked.is_fit()
-            && fits(self.promised.0)
-            && fits(self.version.0)
-            && fits(self.last.0)
+        self.asked.is_fit() && fits(self.promised.0) && fits(self.version.0) && fits(self.last.0)
     }
 }
 

@@ -2,7 +2,7 @@
 ghost use Rattle.std.specs.Prelude.{◌≡◌, ◌==◌, ◌<◌, ◌^◌, suc};
 ghost use Rattle.std.specs.Bool.{OnTrue};
 ghost use Rattle.agreement.specs.Copies.{rank, higher};
-ghost use Rattle.copies.specs.Steps.{learns, marks};
+ghost use Rattle.copies.specs.Steps.{learns, marks, fresh};
 ghost use Rattle.copies.specs.Views.{the_proposal, the_status, the_agreeing, the_marks};
 
 use crate::message::{Bundle, Status};
@@ -39,7 +39,10 @@ pub struct Agreeing<C> {
 
 impl<C: Drop> Proposal<C> {
     // Of two, that under the higher ballot, or the first.
-    pub(crate) fn higher(mine: Option<Proposal<C>>, theirs: Option<Proposal<C>>) -> Option<Proposal<C>>
+    pub(crate) fn higher(
+        mine: Option<Proposal<C>>,
+        theirs: Option<Proposal<C>>,
+    ) -> Option<Proposal<C>>
         ensures { the_proposal result ≡ higher (the_proposal mine) (the_proposal theirs) }
     {
         match (&mine, &theirs) {
@@ -51,6 +54,19 @@ impl<C: Drop> Proposal<C> {
 }
 
 impl<C> Agreeing<C> {
+    // Nothing was agreed on yet.
+    pub fn new() -> Agreeing<C>
+        ensures { the_agreeing result ≡ fresh }
+    {
+        Agreeing {
+            promised: Ballot(0),
+            version: Version(0),
+            last: Ballot(0),
+            proposal: None,
+            recovery: Recovery::Level,
+        }
+    }
+
     pub(crate) fn has_proposed_under(&self, ballot: Ballot) -> bool
         ensures { result ≡ (rank (the_agreeing self.now).proposal == suc ballot.0) }
     {

@@ -74,7 +74,11 @@ impl<A: Drop> Sessions<A> {
 }
 
 impl<A: Copied> Sessions<A> {
-    pub(crate) fn replies_of(&self, house: HouseNumber, heap: Global) -> Result<Vec<Reply<A>>, AllocError>
+    pub(crate) fn replies_of(
+        &self,
+        house: HouseNumber,
+        heap: Global,
+    ) -> Result<Vec<Reply<A>>, AllocError>
         ensures { IfOk result (λ rs. the_replies rs.items ≡ (the_sessions self.now house.0).replies) }
     {
         match self.of(house) {

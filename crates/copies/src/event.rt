@@ -1,9 +1,10 @@
 // Whole events, as they come to a house. One that isn't admitted changes nothing. After a status or a part its work is to be done, and then
 // it goes on.
-ghost use Rattle.std.specs.Prelude.{◌≡◌, ◌&&◌, [], IfOk, cond};
-ghost use Rattle.copies.specs.Copy.{rests, on_bundle, on_status, on_want, on_part, on_tick, queued, pack, forward, goes_on};
+ghost use Rattle.std.specs.Prelude.{◌≡◌, ◌<◌, ◌^◌, ◌&&◌, ◌||◌, [], IfOk, cond};
+ghost use Rattle.copies.specs.Copy.{rests, on_bundle, on_status, on_want, on_part, on_tick, taken, begins_again, queued, pack, forward, goes_on};
 ghost use Rattle.copies.specs.Admits.{fits, bundle_fits, session_fits, status_fits, want_fits, part_fits};
 ghost use Rattle.copies.specs.Events.{begun, settles, Hears, HearsKept, Calls, CallsKept, KeptSince, house_ready, admits_from, is_full};
+ghost use Rattle.copies.specs.Steps.{is_applied, is_replaced};
 ghost use Rattle.copies.specs.Views.{the_bundle, the_session, the_status, the_want, the_part, the_work, the_turn};
 
 use crate::admit::fits;
@@ -87,11 +88,7 @@ impl<C: Copied, A: Copied> House<C, A> {
             return Ok(Heard::Passed(self));
         }
         let before = self.agreeing.marks();
-        let turn = self
-            .begins(heap)
-            .settle(session)
-            .pack(heap)?
-            .forward(heap)?;
+        let turn = self.begins(heap).settle(session).pack(heap)?.forward(heap)?;
         Ok(Heard::Begun(turn.noting(Stores::nothing(), before)))
     }
 
@@ -113,32 +110,40 @@ impl<C: Copied, A: Copied> House<C, A> {
         Ok(Heard::Begun(turn.noting(Stores::nothing(), before)))
     }
 
+    #[tactic(auto, using(crate::proofs::Told::told_want))]
     pub fn hears_want<X: Drop, B: Drop>(
         self,
         heap: Global,
         from: HouseNumber,
         want: Want,
     ) -> Heard<X, B, C, A>
-        ensures { Hears (admits_from self from && want_fits (the_want want)) (on_want from.0 (the_want want)) self result }
+        ensures kept { HearsKept self result }
+        ensures value { Hears (admits_from self from && want_fits (the_want want)) (on_want from.0 (the_want want)) self result }
     {
         if !self.admits(from) || !want.is_fit() {
             return Heard::Passed(self);
         }
-        Heard::Begun(self.begins(heap).on_want(from, want))
+        let before = self.agreeing.marks();
+        let turn = self.begins(heap).on_want(from, want);
+        Heard::Begun(turn.noting(Stores::nothing(), before))
     }
 
+    #[tactic(auto, using(crate::proofs::Told::told_part))]
     pub fn hears_part<X: Drop, B: Drop>(
         self,
         heap: Global,
         from: HouseNumber,
         part: Part<X, B, A>,
     ) -> Heard<X, B, C, A>
-        ensures { Hears (admits_from self from && part_fits (the_part part)) (on_part from.0 (the_part part)) self result }
+        ensures kept { HearsKept self result }
+        ensures value { Hears (admits_from self from && part_fits (the_part part)) (on_part from.0 (the_part part)) self result }
     {
         if !self.admits(from) || !part.is_fit() {
             return Heard::Passed(self);
         }
-        Heard::Begun(self.begins(heap).on_part(from, part))
+        let before = self.agreeing.marks();
+        let turn = self.begins(heap).on_part(from, part);
+        Heard::Begun(turn.noting(Stores::nothing(), before))
     }
 
     #[tactic(auto, using(crate::proofs::Ready::ready_counter, crate::proofs::Told::told_call))]
@@ -166,39 +171,94 @@ impl<C: Copied, A: Copied> House<C, A> {
         Ok(Called::Begun(turn.noting(Stores::nothing(), before)))
     }
 
-    #[tactic(auto, using(crate::proofs::Ready::ready_counter, crate::proofs::Ready::ready_promised, crate::proofs::Ready::ready_quiet))]
+    #[tactic(auto, using(crate::proofs::Ready::ready_counter, crate::proofs::Ready::ready_promised, crate::proofs::Ready::ready_quiet, crate::proofs::Told::told_tick))]
     pub fn ticks<X: Drop, B: Drop>(self, heap: Global) -> Result<Heard<X, B, C, A>, AllocError>
-        ensures { IfOk result (Hears (house_ready self) (λ t. goes_on (on_tick t)) self) }
+        ensures kept { IfOk result (HearsKept self) }
+        ensures value { IfOk result (Hears (house_ready self) (λ t. goes_on (on_tick t)) self) }
     {
         if !self.is_ready() {
             return Ok(Heard::Passed(self));
         }
-        let turn = self.begins(heap).on_tick().goes_on(heap)?;
-        Ok(Heard::Begun(turn))
+        let before = self.agreeing.marks();
+        let turn = self
+            .begins(heap)
+            .on_tick()
+            .noting(Stores::nothing(), before);
+        Ok(Heard::Begun(turn.going_on(heap)?))
+    }
+}
+
+impl<X, B, C, A> Work<X, B, C, A> {
+    fn is_replaced(&self) -> bool
+        ensures { result ≡ is_replaced (the_work self.now) }
+    {
+        matches!(self, Work::Replaces(_))
     }
 }
 
 impl<X: Drop, B: Drop, C: Copied, A: Copied> Turn<X, B, C, A> {
-    // What is to be done on blocks; it is done from now on.
+    // What is to be done on blocks; it is done from now on. A command's bundles leave sessions.
     pub fn take_work(&mut self) -> Work<X, B, C, A>
         ensures work { the_work result ≡ (the_turn self.old).work }
         ensures others { the_turn self.new ≡ record (the_turn self.old) { work = rests } }
+        ensures agreeing { self.new.stores.agreeing ≡ self.old.stores.agreeing }
+        ensures sessions { self.new.stores.sessions ≡ (self.old.stores.sessions || is_applied (the_work self.old.work)) }
     {
+        let applies = matches!(&self.work, Work::Applies(_));
+        self.stores.sessions = self.stores.sessions || applies;
         mem::replace(&mut self.work, Work::Rests)
     }
 
-    // When the work is done, of a status or a part: the bundle under way may be done, the next is made, what waits is proposed.
-    #[tactic(auto, using(crate::proofs::Told::told_goes_on))]
-    pub fn ends(self, heap: Global) -> Result<Self, AllocError>
-        ensures kept { IfOk result (KeptSince self) }
-        ensures value { IfOk result (λ t. the_turn t ≡ cond (fits (the_turn self).memory.counter) (goes_on (the_turn self)) (the_turn self)) }
+    // The part's blocks are taken over.
+    #[tactic(auto, using(crate::proofs::Told::brought))]
+    pub fn takes_over_part(self, from: HouseNumber, part: Part<X, B, A>) -> Self
+        ensures kept { KeptSince self result }
+        ensures value { the_turn result ≡ taken from.0 (the_part part) (the_turn self) }
     {
-        if !fits(self.house.memory.number.counter) {
-            return Ok(self);
-        }
+        let was = self.stores;
+        let mut turn = self.taken(from, part);
+        turn.stores = Stores {
+            agreeing: true,
+            sessions: turn.work.is_replaced() || was.sessions,
+        };
+        turn
+    }
+
+    // There is no place for the part's blocks: it begins again from nothing.
+    pub fn starts_over(self, from: HouseNumber) -> Self
+        ensures kept { KeptSince self result }
+        ensures value { the_turn result ≡ begins_again from.0 (the_turn self) }
+    {
+        let was = self.stores;
+        let mut turn = self.begins_again(from);
+        turn.stores = Stores {
+            agreeing: true,
+            sessions: was.sessions,
+        };
+        turn
+    }
+
+    #[tactic(auto, using(crate::proofs::Told::told_goes_on))]
+    fn going_on(self, heap: Global) -> Result<Self, AllocError>
+        requires { self.house.memory.number.counter < 2 ^ 62 }
+        ensures kept { IfOk result (KeptSince self) }
+        ensures value { IfOk result (λ t. the_turn t ≡ goes_on (the_turn self)) }
+    {
         let was = self.stores;
         let before = self.house.agreeing.marks();
         let turn = self.goes_on(heap)?;
         Ok(turn.noting(was, before))
+    }
+
+    // When the work is done, of a status or a part: the bundle under way may be done, the next is made, what waits is proposed.
+    pub fn ends(self, heap: Global) -> Result<Self, AllocError>
+        ensures kept { IfOk result (KeptSince self) }
+        ensures value { IfOk result (λ t. the_turn t ≡ cond (fits (the_turn self).memory.counter) (goes_on (the_turn self)) (the_turn self)) }
+    {
+        if fits(self.house.memory.number.counter) {
+            self.going_on(heap)
+        } else {
+            Ok(self)
+        }
     }
 }

@@ -15,5 +15,7 @@ pub mod run;
 pub mod service;
 pub mod sessions;
 pub mod status;
+#[cfg(test)]
+mod tests;
 pub mod tick;
 pub mod turn;

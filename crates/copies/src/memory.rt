@@ -1,10 +1,12 @@
 // What a house remembers, until its power fails.
 ghost use Rattle.std.specs.Prelude.{◌≡◌};
 ghost use Rattle.copies.specs.Copy.{new_pass};
-ghost use Rattle.copies.specs.Views.{the_pass};
+ghost use Rattle.copies.specs.Steps.{woken};
+ghost use Rattle.copies.specs.Views.{the_pass, the_memory};
 
 use crate::message::{Bundle, Item};
 use crate::number::*;
+use std::alloc::Global;
 
 // Which versions the parts of a pass were of.
 #[derive(Clone, Copy, PartialEq, Eq)]
@@ -44,6 +46,31 @@ impl Pass {
             key: Key(0),
             span: None,
             asked: true,
+        }
+    }
+}
+
+impl<C> Memory<C> {
+    // A house comes up, for the incarnation-th time.
+    pub fn new(heap: Global, me: HouseNumber, incarnation: u64) -> Memory<C>
+        ensures { the_memory result ≡ woken me.0 incarnation }
+    {
+        Memory {
+            me,
+            number: Number {
+                incarnation,
+                counter: 0,
+            },
+            lead: None,
+            quiet: 0,
+            waiting: Vec::new(heap),
+            way: None,
+            heard: Vec::new(heap),
+            pass: Pass {
+                key: Key(0),
+                span: None,
+                asked: false,
+            },
         }
     }
 }

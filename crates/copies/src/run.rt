@@ -17,7 +17,11 @@ fn add<T: Drop>(all: &mut Vec<T>, one: T) -> Result<(), AllocError>
 }
 
 // What the calls are replied, one after the other.
-fn replies_to<S: Service>(service: &mut S, calls: &[Item<S::Call>], heap: Global) -> Result<Vec<Reply<S::Reply>>, S::Error>
+fn replies_to<S: Service>(
+    service: &mut S,
+    calls: &[Item<S::Call>],
+    heap: Global,
+) -> Result<Vec<Reply<S::Reply>>, S::Error>
     ensures { IfOk result (λ rs. (the_replies rs.items ≡ replied S.reply S.next (the_items calls.now) (S.state service.old)) × (S.state service.new ≡ left S.next (the_items calls.now) (S.state service.old))) }
 {
     let mut replies = Vec::new(heap);

@@ -13,7 +13,9 @@ pub trait Copied: Drop {
 // A service, by what it replies and how it goes on.
 pub trait Service {
     type Call: Copied;
+
     type Reply: Copied;
+
     type Error: From<AllocError>;
 
     ghost State: { Type 0 };

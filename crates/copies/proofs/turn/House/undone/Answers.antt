@@ -9,6 +9,6 @@ loop-bundle-preserved g c =
     let lt = rw c.deref-bundle-items.ensures.value at c.loop-bundle-test.true in
     let at = rw c.deref-bundle-items.ensures.value at c.bundle-item.is in
     elim c.if-is_new.branch [
-      then-is_new+in_ok-copied+in_ok-push w ↦ rw (w.bundles-is, w.in_ok-push.ensures.items) (undone_kept _ _ _ _ _ _ c.loop-bundle.invariant lt at (search rules) w.in_ok-copied.ensures)
+      | then-is_new+in_ok-copied+in_ok-push w ↦ rw (w.bundles-is, w.in_ok-push.ensures.items) (undone_kept _ _ _ _ _ _ c.loop-bundle.invariant lt at (search rules) w.in_ok-copied.ensures)
       | else-is_new w ↦ rw (w.bundles-is, undone_passed (the_sessions c.args.self.now.sessions) c.args.self.now.memory.heard.items c.loop-bundle.bundle-index c.bundle-item.result lt at (search rules)) c.loop-bundle.invariant
     ]
