@@ -1,8 +1,10 @@
 // Three houses agree on a command, by statuses that are handed from one to the other.
-use crate::agreeing::{Agreeing, Command, Proposal};
+ghost use Rattle.std.specs.Prelude.{ℕ, ◌+◌, bit_and};
+
+use crate::agreeing::Agreeing;
 use crate::event::{Called, Heard};
 use crate::memory::Memory;
-use crate::message::{Bundle, Item, Status};
+use crate::message::Status;
 use crate::number::*;
 use crate::run::applies;
 use crate::service::{Copied, Service};
@@ -18,6 +20,7 @@ impl Copied for u64 {
 }
 
 // A call is added, and the reply is what was there before.
+#[derive(Drop)]
 struct Sum(u64);
 
 impl Service for Sum {
