@@ -3,6 +3,10 @@ pub mod Messages
 pub mod Copy
 pub mod House
 pub mod Promise
+pub mod Cells
 pub mod Admits
 pub mod Guarded
-pub mod Cells
+pub mod Views
+pub mod Steps
+pub mod Events
+pub mod Runs
