@@ -1,8 +1,8 @@
 -- Sessions in a list, by the house's number.
-use Rattle.std.proofs.Common.{◌≡◌, ℕ, zero, suc, ◌+◌, ◌<◌, ◌≤◌, List, [], ◌∷◌, ◌++◌, length, get_or, set, cond, eqb, false, refl, ap, arith}
+use Rattle.std.proofs.Common.{◌≡◌, ℕ, zero, suc, ◌<◌, ◌≤◌, List, [], ◌∷◌, ◌++◌, length, get_or, set, eqb, false, refl, arith}
 use Rattle.std.proofs.lemmas.Bool.Decides.{nat_tests}
 use Rattle.disks.specs.Cluster.{put}
-use Rattle.copies.specs.Messages.{Session, unused}
+use Rattle.copies.specs.Messages.{unused}
 use Rattle.copies.specs.Views.{the_session, session_of}
 use Rattle.copies.specs.declared.message.Session.{Session as SessionHad}
 

@@ -1,8 +1,8 @@
 -- What an event does where a test holds, and where it fails.
-use Rattle.std.proofs.Common.{◌≡◌, ℕ, suc, Bool, true, false, ◌&&◌, ◌==◌, not, List, [], ◌∷◌, refl, ap, cond, ◌∙◌}
+use Rattle.std.proofs.Common.{◌≡◌, ℕ, suc, Bool, true, false, ◌&&◌, ◌==◌, not, refl, ap, cond, ◌∙◌}
 use Rattle.agreement.specs.Copies.{Proposal, nothing, voted, rank}
 use Rattle.copies.specs.Messages.{Command, Session, Status, is_level}
-use Rattle.copies.specs.Copy.{Way, free, under, Turn, is_copy, is_nil, undone, ahead, recovering, settle, freed, is_open, proposing, forward}
+use Rattle.copies.specs.Copy.{Way, free, under, Turn, is_copy, is_nil, undone, ahead, recovering, settle, is_open, proposing, forward}
 use Rattle.copies.specs.Steps.{learns, is_way, freed_by, is_idle}
 
 and_last : (a b c d e : Bool) → (a && (b && (c && (d && e)))) ≡ ((a && (b && (c && d))) && e)

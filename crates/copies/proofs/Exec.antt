@@ -1,6 +1,6 @@
 -- A command's bundles and a bundle's calls, one after the other.
-use Rattle.std.proofs.Common.{◌≡◌, ℕ, zero, suc, ◌+◌, ◌<◌, List, [], ◌∷◌, ◌++◌, length, take, get_or, refl, sym, ap, add-one, arith}
-use Rattle.copies.specs.Messages.{Item, Reply}
+use Rattle.std.proofs.Common.{◌≡◌, ℕ, zero, suc, ◌+◌, ◌<◌, List, [], ◌∷◌, ◌++◌, length, take, get_or, sym, ap, add-one, arith}
+use Rattle.copies.specs.Messages.{Reply}
 use Rattle.copies.specs.Runs.{left, replied, Ran, bundle_run, command_run}
 use Rattle.copies.specs.Views.{the_items, the_bundle, the_bundles}
 use Rattle.copies.specs.declared.message.Bundle.{Bundle}

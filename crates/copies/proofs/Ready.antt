@@ -1,5 +1,5 @@
 -- What a house knows of its numbers where it admits an event.
-use Rattle.std.proofs.Common.{◌≡◌, ℕ, suc, ◌<◌, ◌^◌, Bool, true, false, ◌&&◌, cond, nat_lt, ◌==◌, refl, arith}
+use Rattle.std.proofs.Common.{◌≡◌, ℕ, suc, ◌<◌, ◌^◌, Bool, true, false, cond, nat_lt, ◌==◌, refl, arith}
 use Rattle.std.proofs.lemmas.Bool.Decides.{nat_tests}
 use Rattle.copies.specs.Messages.{Agreeing, Recovery, level, recovers}
 use Rattle.copies.specs.Copy.{Memory, Turn, is_copy, on_tick, stirs, elect, elects, resend, patience, next_ballot, saying}

@@ -1,6 +1,6 @@
 -- Events leave sessions alone, and what a copy agrees on changes only where its marks do: a command is proposed only under a ballot that wasn't proposed under, and is
 -- taken back only where the version rises.
-use Rattle.std.proofs.Common.{◌≡◌, ℕ, zero, suc, Bool, true, false, cond, not, ◌&&◌, ◌||◌, ◌==◌, ◌%◌, refl, sym, subst, List, ◌∷◌, Option, Some, ap, ◌∙◌, max, nat_lt, nat_le, arith}
+use Rattle.std.proofs.Common.{◌≡◌, ℕ, suc, Bool, true, false, cond, not, ◌&&◌, ◌||◌, ◌==◌, ◌%◌, refl, sym, subst, ◌∷◌, Some, ap, ◌∙◌, max, nat_lt, nat_le, arith}
 use Rattle.std.proofs.lemmas.Bool.Decides.{nat_tests}
 use Rattle.agreement.specs.Copies.{Proposal, nothing, voted, rank, higher}
 use Rattle.copies.specs.Messages.{Command, Recovery, level, recovers, is_level, Agreeing, Status, Session, Bundle, Want, Part, Tail, more, ends}

@@ -1,14 +1,14 @@
 -- Which events a house admits: its own numbers and those that it hears leave room to count on, and bundles and commands are no larger than
 -- they may be.
 -- Assumes nothing.
-use Rattle.std.specs.Prelude.{ℕ, Bool, true, ◌&&◌, List, length, count_by, nat_lt, nat_le, ◌==◌}
+use Rattle.std.specs.Prelude.{ℕ, Bool, true, ◌&&◌, length, count_by, nat_lt, nat_le, ◌==◌}
 use Rattle.std.specs.List.{list_all}
-use Rattle.disks.specs.Cluster.{In, From, Ask, Tick}
+use Rattle.disks.specs.Cluster.{From, Ask, Tick}
 use Rattle.agreement.specs.Copies.{Proposal, nothing, voted}
 use Rattle.copies.specs.Service.{Service, Keeper}
 use Rattle.copies.specs.Messages.{Bundle, Command, Session, Agreeing, Status, Want, Part, Bundled, Done, Told, Asked, Given}
 use Rattle.copies.specs.Copy.{Memory}
-use Rattle.copies.specs.House.{Disks, Messages, Guard}
+use Rattle.copies.specs.House.{Messages, Guard}
 
 -- a number below 2^62
 abbrev pub fits : ℕ → Bool

@@ -1,7 +1,6 @@
 -- What a house does at each event, but for the blocks: the agreement, bundles, catching up. What is to be done on blocks is left as work.
 -- Assumes nothing.
-use Rattle.std.specs.Prelude.{◌≡◌, ℕ, suc, ◌+◌, ◌*◌, ◌/◌, ◌%◌, min, max, Bool, true, false, cond, ◌&&◌, ◌||◌, not, List, [], ◌∷◌, ◌++◌, length, Option, Some, None, nat_lt, nat_le, ◌==◌}
-use Rattle.disks.specs.Cluster.{put}
+use Rattle.std.specs.Prelude.{ℕ, suc, ◌+◌, ◌*◌, ◌/◌, ◌%◌, min, max, Bool, true, false, cond, ◌&&◌, ◌||◌, not, List, [], ◌∷◌, ◌++◌, length, Option, Some, None, nat_lt, nat_le, ◌==◌}
 use Rattle.agreement.specs.Copies.{Proposal, nothing, voted, rank, higher}
 use Rattle.copies.specs.Messages.{Item, Bundle, Command, Reply, Session, Recovery, level, recovers, is_level, Agreeing, Status, Want, Part, Tail, more, ends, above}
 
@@ -108,13 +107,13 @@ houses_of (b ∷ k) = b.house ∷ houses_of k
 abbrev pub next_ballot : (me p : ℕ) → ℕ
 next_ballot me p = 3 * (p / 3 + 1) + me
 
--- the status to one house; to all others it stays
+-- the status to one house, too; to both others is to it as well
 abbrev pub also : ℕ → Whom → Whom
 also r others = others
 also r nobody = one r
 also r (one q) = one r
 
--- CATCHING UP. A part is taken if it is what I ask for, and its version is no lower than mine.
+-- is it what this copy asks for?
 abbrev pub is_asked : Want → Pass → Recovery → Bool
 is_asked w s level = false
 is_asked w s (recovers a t) = w.base == a && (w.top == t && w.key == s.key)
@@ -127,6 +126,7 @@ widened v (from_to l h) = from_to (min l v) (max h v)
 abbrev pub patience : ℕ → ℕ
 patience me = me + 2
 
+-- WHAT IS STORED of the agreement, changed
 module _ {O : Type 0} where
   abbrev pub raised : ℕ → Agreeing O → Agreeing O
   raised p a = record a { promised = p }
@@ -149,19 +149,20 @@ module _ {O : Type 0} where
   abbrev pub ended : ℕ → Agreeing O → Agreeing O
   ended p a = record a { promised = p; recovery = level }
 
-  -- BUNDLES. A bundle is heard by a copy: it waits, or its replies are sent.
+  -- what a copy remembers of a bundle: the last of its house
   abbrev pub remembered : Bundle O → Memory O → Memory O
   remembered b m = record m { heard = b ∷ not_of b.house m.heard }
 
-  -- a bundle of all that wait, if none is under way; a copy hears its own
+  -- a bundle of all that wait
   abbrev pub new_bundle : Memory O → Bundle O
   new_bundle m = record { house = m.me; incarnation = m.incarnation; counter = suc m.counter; calls = m.waiting }
 
-  -- A CALL. Eight may wait.
+  -- how many calls wait, those of the bundle under way with them
   abbrev pub count : Memory O → Way O → ℕ
   count m free = length m.waiting
   count m (under b) = length b.calls + length m.waiting
 
+-- EVENTS, as functions on what is had in the midst of one
 module _ {X B O A : Type 0} where
   abbrev pub with_memory : Memory O → Turn X B O A → Turn X B O A
   with_memory m t = record t { memory = m }
@@ -181,10 +182,12 @@ module _ {X B O A : Type 0} where
   abbrev pub wanting : ℕ → Turn X B O A → Turn X B O A
   wanting r t = record t { sends = record t.sends { wants = Some r } }
 
+  -- BUNDLES. A bundle is heard by a copy: it waits, or its replies are sent.
   unfoldable pub on_bundle : Bundle O → Turn X B O A → Turn X B O A
   on_bundle b t =
       cond (is_copy t.memory.me) (cond (is_new b t.sessions) (with_memory (remembered b t.memory) t) (record t { sends = record t.sends { replies = b.house ∷ t.sends.replies } })) t
 
+  -- one is made of all that wait, if none is under way; a copy hears its own
   abbrev pub packed : Turn X B O A → Turn X B O A
   packed t =
       record t {
@@ -279,6 +282,7 @@ module _ {X B O A : Type 0} where
   unfoldable pub on_status : ℕ → Status O → Turn X B O A → Turn X B O A
   on_status r x t = cond (is_copy t.memory.me && (is_copy r && not (r == t.memory.me))) (status_of r (max t.agreeing.promised x.promised) x t.agreeing.recovery (noted r x t)) t
 
+  -- CATCHING UP. A part is taken if it is what I ask for, and its version is no lower than mine.
   unfoldable pub on_part : ℕ → Part X B A → Turn X B O A → Turn X B O A
   on_part r x t =
       cond (is_copy t.memory.me && (is_asked x.asked t.memory.pass t.agreeing.recovery && nat_le t.agreeing.version x.version)) (record t { work = takes r x }) t
@@ -328,5 +332,6 @@ module _ {X B O A : Type 0} where
   unfoldable pub on_tick : Turn X B O A → Turn X B O A
   on_tick t = cond (is_copy t.memory.me) (stirs t.agreeing.recovery (resend t)) (resend t)
 
+  -- A CALL waits behind those that were made before.
   abbrev pub queued : ℕ → O → Turn X B O A → Turn X B O A
   queued k o t = record t { memory = record t.memory { waiting = t.memory.waiting ++ record { id = k; call = o } ∷ [] } }

@@ -1,10 +1,10 @@
 -- What the code says of a whole event.
 -- Assumes nothing.
-use Rattle.std.specs.Prelude.{◌≡◌, Bool, true, false, ◌&&◌, [], cond, nat_le, vec_items}
+use Rattle.std.specs.Prelude.{◌≡◌, Bool, true, false, ◌&&◌, [], nat_le}
 use Rattle.copies.specs.Messages.{Session}
 use Rattle.copies.specs.Copy.{Turn, rests, silent, count, pack, settle, forward}
 use Rattle.copies.specs.Admits.{is_ready, is_house}
-use Rattle.copies.specs.Views.{the_agreeing, the_sessions, the_memory, the_turn, the_way}
+use Rattle.copies.specs.Views.{the_agreeing, the_sessions, the_memory, the_turn}
 use Rattle.copies.specs.declared.number.HouseNumber.{HouseNumber}
 use Rattle.copies.specs.declared.turn.House.{House}
 use Rattle.copies.specs.declared.turn.Turn.{Turn as TurnHad}

@@ -1,12 +1,12 @@
 -- A house with its blocks: what it stores and remembers, and what it does at each event.
 -- Assumes nothing.
-use Rattle.std.specs.Prelude.{◌≡◌, ℕ, suc, ◌+◌, max, Bool, true, false, cond, ◌&&◌, ◌||◌, not, List, [], ◌∷◌, ◌++◌, length, Option, Some, None, nat_lt, nat_le, ◌==◌}
+use Rattle.std.specs.Prelude.{ℕ, suc, Bool, false, cond, ◌||◌, not, List, [], ◌∷◌, Option, Some, None, nat_lt, nat_le, ◌==◌}
 use Rattle.disks.specs.Cluster.{In, From, Ask, Tick, Out, To, Tell, put}
-use Rattle.agreement.specs.Copies.{Proposal, nothing}
+use Rattle.agreement.specs.Copies.{nothing}
 use Rattle.compose.specs.Pure.{Pure}
-use Rattle.copies.specs.Service.{Change, Service, Keeper, overwritten}
+use Rattle.copies.specs.Service.{Service, Keeper}
 use Rattle.copies.specs.Messages.{Item, Bundle, Command, Reply, Session, level, recovers, is_level, Agreeing, Status, Want, Part, more, ends, next_key, Message, Bundled, Done, Told, Asked, Given, unused}
-use Rattle.copies.specs.Copy.{Way, free, under, unseen, Memory, Whom, nobody, one, others, Work, rests, applies, takes, replaces, Serve, Sends, Turn, silent, is_copy, is_new, on_bundle, pack, settle, forward, goes_on, on_status, on_part, taken, begins_again, on_want, on_tick, count, queued}
+use Rattle.copies.specs.Copy.{Way, free, under, unseen, Memory, Whom, nobody, one, others, Work, rests, applies, takes, replaces, Serve, Turn, silent, is_new, on_bundle, pack, settle, forward, goes_on, on_status, on_part, taken, begins_again, on_want, on_tick, count, queued}
 
 -- what a house stores
 pub record Disk (X K O A : Type 0) : Type 0 where

@@ -1,7 +1,7 @@
 -- What is agreed on, what a house keeps of it, and what houses say to each other.
 -- Assumes nothing.
-use Rattle.std.specs.Prelude.{◌≡◌, ℕ, Bool, true, false, cond, ◌&&◌, ◌||◌, not, List, [], ◌∷◌, Option, Some, None, nat_lt, ◌==◌}
-use Rattle.agreement.specs.Copies.{Proposal, nothing}
+use Rattle.std.specs.Prelude.{ℕ, Bool, true, false, ◌&&◌, ◌||◌, List, [], Option, Some, None, nat_lt, ◌==◌}
+use Rattle.agreement.specs.Copies.{Proposal}
 use Rattle.copies.specs.Service.{Stamped}
 
 -- a customer's call

@@ -1,13 +1,13 @@
 -- What is promised of the houses together: they are as one place, and their copies agree.
 -- Assumes nothing.
-use Rattle.std.specs.Prelude.{◌≡◌, ◌⊎◌, ℕ, suc, ◌+◌, ◌*◌, ◌<◌, ◌≤◌, Bool, true, false, cond, List, [], ◌∷◌, ◌++◌, length, not}
+use Rattle.std.specs.Prelude.{◌≡◌, ◌⊎◌, ℕ, ◌+◌, ◌*◌, ◌<◌, ◌≤◌, true, cond, List, [], ◌∷◌, ◌++◌, length}
 use mathlib.Core.List.{Memᴰ}
 use Rattle.disks.specs.Cluster.{In, Plain, Seen, Packet, put}
 use Rattle.compose.specs.Pure.{Pure, Stand, off, on, World, Trace, begin, rises, does, asked, ticks, falls, falls_rising, falls_doing, falls_asked, falls_ticking, PureAsOne, PureBusy, PureAnswers}
 use Rattle.copies.specs.Service.{Service, Keeper, Lawful, Keeps, overwritten}
 use Rattle.copies.specs.Messages.{Item, Bundle, Command, Reply, Session, Recovery, level, recovers, Told, unused, Status}
 use Rattle.copies.specs.Copy.{is_new, Memory}
-use Rattle.copies.specs.House.{Disk, Disks, Messages, Guard, replicated, status_now}
+use Rattle.copies.specs.House.{Disks, Messages, Guard, replicated, status_now}
 
 module _ {O R : Type 0} (sv : Service O R) where
   -- ONE PLACE. The service's state, and what a call leaves.

@@ -1,6 +1,6 @@
 -- What the code's values stand for.
 -- Assumes nothing.
-use Rattle.std.specs.Prelude.{ℕ, zero, suc, ◌%◌, slice_index_or, Bool, true, false, List, [], ◌∷◌, Option, Some, None, map, vec_items}
+use Rattle.std.specs.Prelude.{ℕ, zero, suc, ◌%◌, slice_index_or, List, [], ◌∷◌, Option, Some, None, map, vec_items}
 use Rattle.agreement.specs.Copies.{Proposal, nothing, voted}
 use Rattle.copies.specs.Service.{Stamped}
 use Rattle.copies.specs.Messages.{Item, Bundle, Command, Reply, Session, Recovery, level, recovers, Agreeing, Status, Want, Part, Tail, more, ends, unused}
@@ -34,7 +34,6 @@ use Rattle.copies.specs.declared.turn.Serve.{Serve as ServeHad}
 use Rattle.copies.specs.declared.turn.Sends.{Sends as SendsHad}
 use Rattle.copies.specs.declared.turn.Work.{Work as WorkHad}
 use Rattle.copies.specs.declared.turn.Work.TheVariants.{Rests, Applies, Takes, Replaces}
-use Rattle.copies.specs.declared.turn.House.{House as HouseHad}
 use Rattle.copies.specs.declared.turn.Turn.{Turn as TurnHad}
 
 -- NUMBERS

@@ -1,7 +1,7 @@
 -- What a copy has, level or not, is part of how copies agree.
-use Rattle.std.proofs.Common.{◌≡◌, ℕ, List, subst}
+use Rattle.std.proofs.Common.{◌≡◌, List, subst}
 use Rattle.copies.specs.Service.{Service, Keeper}
-use Rattle.copies.specs.Messages.{Command, Recovery, level, recovers}
+use Rattle.copies.specs.Messages.{Command, Recovery}
 use Rattle.copies.specs.Promise.{HasBlocks, CaughtUp}
 use Rattle.replicated.proofs.Agreement.{agreement}
 

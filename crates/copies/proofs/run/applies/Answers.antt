@@ -1,6 +1,5 @@
-use Rattle.std.proofs.Common.{refl, ap}
-use Rattle.copies.specs.Runs.{Ran, command_run, bundle_run}
-use Rattle.copies.specs.Views.{the_bundle}
+use Rattle.std.proofs.Common.{refl}
+use Rattle.copies.specs.Runs.{command_run}
 use Rattle.copies.proofs.Exec.{run_next}
 use Rattle.copies.proofs.run.applies.Goals as goal
 

@@ -1,4 +1,4 @@
-use Rattle.std.proofs.Common.{◌≡◌, false, sym, ◌∙◌}
+use Rattle.std.proofs.Common.{sym, ◌∙◌}
 use Rattle.copies.specs.Views.{the_part, the_turn}
 use Rattle.copies.proofs.Told.{brought}
 use Rattle.copies.proofs.turn.Turn.takes_over_part.Goals as goal
