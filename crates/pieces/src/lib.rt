@@ -1,0 +1,5 @@
+// Where the sectors of volumes lie on one house's device. It knows places and versions; it reads and writes nothing itself.
+#![tactic(auto)]
+
+pub mod entry;
+pub mod layout;
