@@ -1,2 +1,3 @@
 pub mod Layouts
 pub mod Entries
+pub mod Kept

@@ -3,3 +3,5 @@
 
 pub mod entry;
 pub mod layout;
+pub mod pieces;
+pub mod set;
