@@ -154,6 +154,9 @@ cleared i (suc s) k = frees_place i s 0 (cleared i s k)
 unfoldable pub vacated : ℕ → Kept → Kept
 vacated i k = record { entries = slice_set (cleared i 8 k).entries i free_entry; taken = (cleared i 8 k).taken; floor = (cleared i 8 k).floor }
 
+unfoldable pub forgets_at : (volume index : ℕ) → Kept → Kept
+forgets_at v i k = cond ((entry_at i k).volume.0 == v) (vacated i k) k
+
 unfoldable pub forgotten : (volume entries : ℕ) → Kept → Kept
 forgotten v zero k = k
-forgotten v (suc i) k = cond ((entry_at i (forgotten v i k)).volume.0 == v) (vacated i (forgotten v i k)) (forgotten v i k)
+forgotten v (suc i) k = forgets_at v i (forgotten v i k)

@@ -2,6 +2,7 @@
 #![tactic(auto)]
 
 pub mod entry;
+pub mod forget;
 pub mod layout;
 pub mod pieces;
 pub mod set;
