@@ -5,9 +5,9 @@ use Rattle.std.specs.List.{sum_by, count_by}
 use Rattle.disks.specs.Device.{zeros}
 use Rattle.pieces.specs.declared.entry.Entry.{Entry}
 use Rattle.pieces.specs.declared.set.Writes.{Writes}
-use Rattle.pieces.specs.Entries.{is_block}
+use Rattle.pieces.specs.Entries.{is_block, free_entry}
 use Rattle.pieces.specs.Layouts.{places_of, entries_of}
-use Rattle.pieces.specs.Kept.{Kept, blank_kept, entry_at, place_of, stamp_of, WasSet, sets, forgotten}
+use Rattle.pieces.specs.Kept.{Kept, blank_kept, index_of, entry_at, place_of, stamp_of, WasSet, sets, forgotten}
 
 -- is this place used?
 abbrev pub use_of : (place : ℕ) → ℕ → ℕ
@@ -45,3 +45,64 @@ pub record Sound (size : ℕ) (k : Kept) : Type 0 where
   pub apart : (p : ℕ) → uses (suc p) k.entries ≡ one (is_taken (suc p) k.taken)
   pub total : sum_by one k.taken ≡ suc (held k.entries)
   pub single : (v b : ℕ) → count_by (is_block (suc v) b) k.entries ≤ 1
+
+-- the entry of a block; one that isn't used, if it has none
+abbrev pub look_in : Option ℕ → List Entry → Entry
+look_in None es = free_entry
+look_in (Some i) es = slice_index_or es i free_entry
+
+abbrev pub look : (volume block : ℕ) → List Entry → Entry
+look v b es = look_in (index_of v b es) es
+
+-- no stamp that was ever given up is above it
+abbrev pub age_of : (volume block : ℕ) → Kept → ℕ
+age_of v b k = max (stamp_of v b k) k.floor
+
+-- what a place holds, by what the places of data hold: zeros where there is none
+abbrev pub content : (ℕ → List ℕ) → ℕ → List ℕ
+content data' zero = zeros 512
+content data' (suc p) = data' (suc p)
+
+-- THE MEANING: what each sector of each volume holds
+abbrev pub shown : (ℕ → List ℕ) → Kept → (volume sector : ℕ) → List ℕ
+shown data' k v n = content data' (place_of v n k)
+
+-- what the places hold when a sector was written
+abbrev pub stored_at : Option ℕ → List ℕ → (ℕ → List ℕ) → ℕ → List ℕ
+stored_at None bs data' = data'
+stored_at (Some p) bs data' = λ q. cond (q == p) bs (data' q)
+
+-- A sector is set: it holds that, all others hold what they held; its block has that stamp, and no other is younger than it was.
+pub record SetsOne (size v n : ℕ) (blank : Bool) (w : ℕ) (k : Kept) (r : WasSet) : Type 0 where
+  pub sound : Sound size r.kept
+  pub found : (bs : List ℕ) (d : ℕ → List ℕ) → shown (stored_at r.writes.place bs d) r.kept (suc v) n ≡ cond blank (zeros 512) bs
+  pub others : (bs : List ℕ) (d : ℕ → List ℕ) (u m : ℕ) → ((u ≡ v) × (m ≡ n) → ⊥) → shown (stored_at r.writes.place bs d) r.kept (suc u) m ≡ shown d k (suc u) m
+  pub stamped : w ≤ age_of (suc v) (n / 8) r.kept
+  pub aged : (u b : ℕ) → ((u ≡ v) × (b ≡ n / 8) → ⊥) → age_of (suc u) b k ≤ age_of (suc u) b r.kept
+
+abbrev pub SetMeans : Type 0
+SetMeans = (size v n w : ℕ) (blank : Bool) (k : Kept) (r : WasSet) → Sound size k → sets (suc v) n blank w k ≡ Some r → SetsOne size v n blank w k r
+
+-- there is always room while no more sectors hold anything than there are places
+abbrev pub AlwaysRoom : Type 0
+AlwaysRoom = (size v n w : ℕ) (blank : Bool) (k : Kept) → Sound size k → held k.entries < places_of size → (r : WasSet) × (sets v n blank w k ≡ Some r)
+
+-- and zeros need none
+abbrev pub ZerosNeedNone : Type 0
+ZerosNeedNone = (v n w : ℕ) (k : Kept) → (r : WasSet) × (sets v n true w k ≡ Some r)
+
+-- a volume is forgotten: its sectors are zeros, and all others hold what they held, with their stamps
+pub record Forgets (size v : ℕ) (k m : Kept) : Type 0 where
+  pub sound : Sound size m
+  pub gone : (d : ℕ → List ℕ) (n : ℕ) → shown d m (suc v) n ≡ zeros 512
+  pub others : (d : ℕ → List ℕ) (u n : ℕ) → u ≢ v → shown d m (suc u) n ≡ shown d k (suc u) n
+  pub aged : (u b : ℕ) → u ≢ v → age_of (suc u) b m ≡ age_of (suc u) b k
+  pub fewer : held m.entries ≤ held k.entries
+
+abbrev pub ForgetMeans : Type 0
+ForgetMeans = (size v : ℕ) (k : Kept) → Sound size k → Forgets size v k (forgotten (suc v) (length k.entries) k)
+
+-- a new directory is sound, and all is zeros
+pub record BlankMeans : Type 0 where
+  pub sound : (size : ℕ) → 65536 ≤ size → Sound size (blank_kept size)
+  pub blank : (size v n : ℕ) (d : ℕ → List ℕ) → shown d (blank_kept size) (suc v) n ≡ zeros 512
