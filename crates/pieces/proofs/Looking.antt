@@ -77,3 +77,6 @@ block_of_marker v b w = rw (eq-eqb v v refl, eq-eqb b b refl) refl
 
 pub same_block : (v b u c w : ℕ) → is_block v b (marker u c w) ≡ true → (u ≡ v) × (c ≡ b)
 same_block v b u c w e = let f = both_true (u == v) (c == b) e in (eqb-true u v f.0, eqb-true c b f.1)
+
+pub look_in_none : (v b : ℕ) (es : List Entry) → index_of v b es ≡ None → look v b es ≡ free_entry
+look_in_none v b es e = ap (λ (o : Option ℕ). look_in o es) e
