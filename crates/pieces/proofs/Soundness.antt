@@ -111,7 +111,7 @@ sound-frees size i s v k x inside few = go (cases_eq (place_at i s k) 0)
     go (inr e) = subst (λ (ts : List Bool). Sound size (record { entries = es; taken = ts; floor = k.floor })) (sym (freed_some q k.taken e)) (one_there e)
 
 -- a place may be put where it was already, or, if it is free, where none was
-pub MayPut : (index slot place : ℕ) → Kept → Type 0
+unfoldable pub MayPut : (index slot place : ℕ) → Kept → Type 0
 MayPut i s p k = ((place_at i s k ≡ 0) × (is_taken p k.taken ≡ false)) ⊎ (place_at i s k ≡ p)
 
 pub sound-puts : (size i s p v : ℕ) (k : Kept) → Sound size k → i < length k.entries → s < 8 → suc p < length k.taken → MayPut i s (suc p) k → Sound size (puts_place i s (suc p) v k)
