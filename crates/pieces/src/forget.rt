@@ -1,5 +1,6 @@
 // What becomes of the directory when a volume is gone: nothing is written, since an entry of a volume that doesn't live is free.
 ghost use Rattle.std.specs.Prelude.{◌≡◌, ◌<◌, length};
+ghost use Rattle.pieces.specs.Meaning.{ForgetMeans};
 ghost use Rattle.pieces.specs.Kept.{the_kept, vacated, forgets_at, forgotten};
 
 use crate::entry::{BLOCK_SECTORS, Entry, Stamp};
@@ -36,6 +37,7 @@ impl Pieces {
     pub fn forget(&mut self, volume: Volume)
         ensures kept { the_kept self.new ≡ forgotten volume.0 (length self.old.entries.items) (the_kept self.old) }
         ensures layout { self.new.layout ≡ self.old.layout }
+        ensures means { ForgetMeans }
     {
         for index in 0..self.entries.len() {
             self.forget_at(volume, index);

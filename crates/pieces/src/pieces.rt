@@ -1,6 +1,7 @@
 // The directory in memory: its entries by their index, which places are taken, and the floor.
 ghost use Rattle.std.specs.Prelude.{◌≡◌, ◌<◌, ◌/◌, ◌%◌, length, not, IfOk, position, slice_set, slice_index_or};
 ghost use Rattle.pieces.specs.Entries.{is_block, is_empty, is_free};
+ghost use Rattle.pieces.specs.Meaning.{BlankMeans};
 ghost use Rattle.pieces.specs.Kept.{the_kept, blank_kept, index_of, vacant, free_place, place_of, found, stamp_of, puts_place, frees_place, with_place};
 ghost use Rattle.pieces.specs.Layouts.{entries_of, places_of};
 
@@ -21,8 +22,10 @@ pub struct Pieces {
 
 impl Pieces {
     // No blocks yet.
+    #[tactic(auto, using(crate::proofs::Blank::blank_means))]
     pub fn new(heap: Global, layout: Layout) -> Result<Pieces, AllocError>
-        ensures { IfOk result (λ p. (the_kept p ≡ blank_kept layout.size) × (p.layout ≡ layout)) }
+        ensures means { BlankMeans }
+        ensures blank { IfOk result (λ p. (the_kept p ≡ blank_kept layout.size) × (p.layout ≡ layout)) }
     {
         let entries = vec![in heap; Entry::free(); layout.entries() as usize]?;
         let mut taken = vec![in heap; false; layout.places() as usize + 1]?;

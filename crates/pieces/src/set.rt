@@ -1,6 +1,7 @@
 // What becomes of the directory when a sector is written.
 ghost use Rattle.std.specs.Prelude.{◌≡◌, ◌<◌, length, Some, true, false};
 ghost use Rattle.disks.specs.Disks.{all_zero};
+ghost use Rattle.pieces.specs.Meaning.{SetMeans, AlwaysRoom, ZerosNeedNone};
 ghost use Rattle.pieces.specs.Kept.{the_kept, floor_after, claims_entry, WasClaimed, place_for, sets, was_set, DoesSet};
 
 use crate::entry::{BLOCK_SECTORS, Block, Entry, Stamp};
@@ -123,6 +124,7 @@ impl Pieces {
     }
 
     // A sector holds this from now on, by a change of that version: what is to be written for it. Where there is no room nothing changes.
+    #[tactic(auto, using(crate::proofs::Always::zeros_need_none))]
     pub fn set(
         &mut self,
         at: Address,
@@ -131,6 +133,9 @@ impl Pieces {
     ) -> Result<Writes, NoRoom>
         ensures kept { DoesSet at.volume.0 at.sector.0 (all_zero sector.now) stamp.0 (the_kept self.old) result (the_kept self.new) }
         ensures layout { self.new.layout ≡ self.old.layout }
+        ensures means { SetMeans }
+        ensures room { AlwaysRoom }
+        ensures zeros { ZerosNeedNone }
     {
         if is_blank(sector) {
             Ok(self.set_blank(at, stamp))

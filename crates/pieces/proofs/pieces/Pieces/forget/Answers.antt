@@ -1,4 +1,5 @@
 use Rattle.std.proofs.Common.{refl, ◌∙◌, ap, length}
+use Rattle.pieces.proofs.Forgetting.{forget_means}
 use Rattle.pieces.proofs.Steps.{forgotten_none, forgotten_more, long_forgets}
 use Rattle.pieces.specs.Kept.{Kept}
 use Rattle.pieces.proofs.pieces.Pieces.forget.Goals as goal
@@ -14,3 +15,6 @@ loop-index-preserved c =
       long = ap (λ (x : Kept). length x.entries) c.forget_at.ensures.kept ∙ long_forgets c.args.volume.0 c.loop-index.index _ ∙ v.long;
       layout = c.forget_at.ensures.layout ∙ v.layout;
     }
+
+pub returns-clause-means : goal.returns-clause-means
+returns-clause-means c = forget_means
