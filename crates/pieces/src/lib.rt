@@ -4,5 +4,6 @@
 pub mod entry;
 pub mod forget;
 pub mod layout;
+pub mod load;
 pub mod pieces;
 pub mod set;

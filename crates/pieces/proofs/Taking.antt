@@ -1,0 +1,14 @@
+-- Places are taken one after the other.
+use Rattle.std.proofs.Common.{◌≡◌, ℕ, suc, ◌+◌, ◌<◌, ◌≤◌, Bool, List, [], ◌∷◌, length, get_or, drop, Some, None, Option, refl, sym, ap, ◌∙◌}
+use Rattle.std.proofs.lemmas.List.{drop_more, drop_all}
+use Rattle.pieces.specs.Loads.{take_new, taking, take_all}
+
+pub take_more : (ps : List ℕ) (i p : ℕ) (ts us : List Bool) (r : Option (List Bool)) → i < length ps → p ≡ get_or ps i 0 → take_new p ts ≡ Some us → take_all (drop i ps) ts ≡ r → take_all (drop (i + 1) ps) us ≡ r
+unfolding take_all
+take_more ps i p ts us r inside at e held =
+    let first : take_all (drop i ps) ts ≡ taking (take_all (drop (i + 1) ps)) (take_new (get_or ps i 0) ts) = ap (λ (qs : List ℕ). take_all qs ts) (drop_more ps i 0 inside) in
+    sym (ap (λ (o : Option (List Bool)). taking (take_all (drop (i + 1) ps)) o) (ap (λ (q : ℕ). take_new q ts) (sym at) ∙ e)) ∙ sym first ∙ held
+
+pub take_end : (ps : List ℕ) (i : ℕ) (ts : List Bool) (r : Option (List Bool)) → length ps ≤ i → take_all (drop i ps) ts ≡ r → r ≡ Some ts
+unfolding take_all
+take_end ps i ts r past held = sym held ∙ ap (λ (qs : List ℕ). take_all qs ts) (drop_all i ps past)

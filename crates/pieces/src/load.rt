@@ -1,0 +1,85 @@
+// The directory as it is on the device: sectors of eight entries each.
+ghost use Rattle.std.specs.Prelude.{◌≡◌, ◌+◌, ◌*◌, ◌≤◌, ◌<◌, length, Some, None, IfOk, OnOk, take, drop, MatchOption};
+ghost use Rattle.pieces.specs.Kept.{the_kept, index_of};
+ghost use Rattle.pieces.specs.Loads.{sector_bytes, take_new, take_all, restores, load_entry, load_entries, entries_in, is_living};
+
+use crate::entry::{ENTRY_BYTES, Entry};
+use crate::layout::SECTOR_ENTRIES;
+use crate::pieces::{Pieces, position};
+use octets::{BLANK_SECTOR, SECTOR_BYTES};
+use wire::number::*;
+
+// The directory contradicts itself: a place or a block twice, or a place that the device hasn't.
+#[derive(Clone, Copy, Debug, PartialEq, Eq)]
+pub struct Broken;
+
+impl Pieces {
+    // An entry comes back from the device.
+    #[tactic(auto, unfolding(crate::specs::Loads::restores))]
+    fn restore(&mut self, index: usize, entry: Entry) -> Result<(), Broken>
+        requires { index < length self.old.entries.items }
+        ensures kept { IfOk result (λ u. restores index entry (the_kept self.old) ≡ Some (the_kept self.new)) }
+        ensures layout { self.new.layout ≡ self.old.layout }
+    {
+        if position(self.entries.as_slice(), entry.volume, entry.block).is_some() {
+            return Err(Broken);
+        }
+        take_places(self.taken.as_mut_slice(), &entry.places)?;
+        self.entries[index] = entry;
+        Ok(())
+    }
+
+    // So if its volume lives; else it is free.
+    fn load_entry(
+        &mut self,
+        index: usize,
+        entry: Entry,
+        lives: &[Volume],
+    ) -> Result<(), Broken>
+        requires { index < length self.old.entries.items }
+        ensures kept { IfOk result (λ u. load_entry (is_living lives.now) index entry (the_kept self.old) ≡ Some (the_kept self.new)) }
+        ensures layout { self.new.layout ≡ self.old.layout }
+    {
+        if lives.contains(&entry.volume) {
+            self.restore(index, entry)
+        } else {
+            Ok(())
+        }
+    }
+
+    // How a sector of the directory is to be.
+    pub fn directory_sector(&self, number: usize) -> [u8; SECTOR_BYTES]
+        requires { 8 * number + 8 ≤ length self.now.entries.items }
+        ensures { result ≡ sector_bytes number (the_kept self.now) }
+    {
+        let mut sector = BLANK_SECTOR;
+        for i in 0..8 {
+            self.entries[8 * number + i].fill(&mut sector[ENTRY_BYTES * i..ENTRY_BYTES * i + ENTRY_BYTES]);
+        }
+        sector
+    }
+}
+
+// Takes a place that wasn't taken.
+#[tactic(auto, unfolding(crate::specs::Loads::take_all))]
+fn take_one(taken: &mut [bool], place: u64) -> Result<(), Broken>
+    ensures { IfOk result (λ u. take_new place taken.old ≡ Some taken.new) }
+{
+    if place == 0 {
+        return Ok(());
+    }
+    if place >= taken.len() as u64 || taken[place as usize] {
+        return Err(Broken);
+    }
+    taken[place as usize] = true;
+    Ok(())
+}
+
+fn take_places(taken: &mut [bool], places: &[u64]) -> Result<(), Broken>
+    ensures { IfOk result (λ u. take_all places.now taken.old ≡ Some taken.new) }
+{
+    for place in places {
+        take_one(taken, *place)?;
+    }
+    Ok(())
+}
