@@ -1,6 +1,7 @@
 -- A block's entry is found or made. Making one changes no place, and what is lost of a marker's stamp is in the floor.
 use Rattle.std.proofs.Common.{◌≡◌, ◌≢◌, ◌⊎◌, inl, inr, ℕ, zero, suc, ◌+◌, ◌/◌, ◌%◌, ◌<◌, ◌≤◌, max, Bool, true, false, cond, ◌&&◌, ◌==◌, List, [], ◌∷◌, length, get_or, set, Some, None, Option, refl, sym, ap, ◌∙◌, subst, arith, length-set}
 use Rattle.std.specs.List.{position, count_by, sum_by}
+use Rattle.std.proofs.lemmas.List.{get_or-set_other}
 use Rattle.std.proofs.lemmas.List.Sums.{sum_by-set}
 use Rattle.std.proofs.lemmas.Bool.{eqb-true, ne_eqb}
 use Rattle.pieces.specs.declared.entry.Entry.{Entry}
@@ -20,6 +21,7 @@ pub record Claims (size v b : ℕ) (k : Kept) (c : Claim) : Type 0 where
   pub places : (u m : ℕ) → place_of (suc u) m c.kept ≡ place_of (suc u) m k
   pub aged : (u a : ℕ) → age_of (suc u) a k ≤ age_of (suc u) a c.kept
   pub taken : c.kept.taken ≡ k.taken
+  pub elsewhere : (j : ℕ) → (c.index ≡ j → ⊥) → entry_at j c.kept ≡ entry_at j k
 
 floor_grows : (f s : ℕ) (b : Bool) → f ≤ cond b f (max f s)
 floor_grows f s true = omega arith
@@ -78,6 +80,7 @@ module _ (size v b w j : ℕ) (k : Kept) (x : Sound size k) (none : index_of (su
     places = λ u m. place_looked (suc u) m (claims_entry (suc v) b w j k) ∙ places (m % 8) (change u (m / 8)) ∙ sym (place_looked (suc u) m k);
     aged = λ u a. aged (change u a);
     taken = refl;
+    elsewhere = λ i o. get_or-set_other k.entries j i (marker (suc v) b w) free_entry (λ (e : i ≡ j). o (sym e));
   }
     where
       places : {u a : ℕ} (s : ℕ) → Change u a → get_or (look (suc u) a (set k.entries j (marker (suc v) b w))).places s 0 ≡ get_or (look (suc u) a k.entries).places s 0
@@ -109,5 +112,5 @@ claims_means size v b w k c x e = go (index_of (suc v) b k.entries) refl e
     go None q r = new (vacant k.entries) refl q r
     go (Some i) q r =
         let same : claimed i k ≡ c = cc in
-        let here : Claims size v b k (claimed i k) = record { sound = x; inside = index_in (suc v) b k.entries i q; at = q; places = λ u m. refl; aged = λ u a. omega arith; taken = refl } in
+        let here : Claims size v b k (claimed i k) = record { sound = x; inside = index_in (suc v) b k.entries i q; at = q; places = λ u m. refl; aged = λ u a. omega arith; taken = refl; elsewhere = λ j o. refl } in
         subst (λ (z : Claim). Claims size v b k z) same here

@@ -4,7 +4,7 @@ use Rattle.std.proofs.Common.{◌≡◌, ◌≢◌, ◌⊎◌, inl, inr, ℕ, ze
 use Rattle.std.specs.List.{position}
 use Rattle.std.proofs.lemmas.List.{get_or-set_same, get_or-set_other}
 use Rattle.std.proofs.lemmas.List.Quantifiers.{position-Some}
-use Rattle.std.proofs.lemmas.Bool.{eqb-true, eq-eqb, ne_eqb, cases_eq, not-true}
+use Rattle.std.proofs.lemmas.Bool.{eqb-true, eq-eqb, ne_eqb, cases_eq, not-true, not-false}
 use Rattle.disks.specs.Device.{zeros}
 use Rattle.pieces.specs.declared.entry.Entry.{Entry}
 use Rattle.pieces.specs.Entries.{is_block, free_entry}
@@ -62,14 +62,16 @@ module _ (size v n p w : ℕ) (k : Kept) (c : Claim) (x : Claims size v (n / 8) 
       omega (arith, stamp_looked (suc u) b m, stamp_looked (suc u) b c.kept, ap (λ (z : Entry). z.stamp.0) (put_other v (n / 8) c.index (n % 8) p w c.kept.entries x.inside x.at u b o), x.aged u b)
 
 -- ZEROS
-blank_one : (size v n w : ℕ) (k : Kept) (c : Claim) (f : Bool) → Claims size v (n / 8) k c → SetsOne size v n true w k (was_set (record { place = None; entry = Some c.index; floor = f }) (frees_place c.index (n % 8) w c.kept))
+blank_one : (size v n w : ℕ) (k : Kept) (c : Claim) (f : Bool) → Claims size v (n / 8) k c → (f ≡ false → c.kept.floor ≡ k.floor) → SetsOne size v n true w k (was_set (record { place = None; entry = Some c.index; floor = f }) (frees_place c.index (n % 8) w c.kept))
 unfolding frees_place
-blank_one size v n w k c f x = record {
+blank_one size v n w k c f x g = record {
   sound = sound-frees size c.index (n % 8) w c.kept x.sound x.inside (omega arith);
   found = λ bs d. ap (content d) (slot_here size v n 0 w k c x _);
   others = λ bs d u m o. ap (content d) (slot_others size v n 0 w k c x _ u m o);
   stamped = slot_stamped size v n 0 w k c x _;
   aged = slot_aged size v n 0 w k c x _;
+  elsewhere = λ j o. get_or-set_other c.kept.entries c.index j _ free_entry (λ (e : j ≡ c.index). o (ap (λ (z : ℕ). Some z) (sym e))) ∙ x.elsewhere j (λ e. o (ap (λ (z : ℕ). Some z) e));
+  risen = g;
 }
 
 -- BYTES. The place is the sector's own, or was free.
@@ -117,14 +119,16 @@ never_none size v n k x e = go (place_of v n k) e
         let e2 : suc q ≡ 0 = cc in
         absurd (omega (arith, e2))
 
-bytes_one : (size v n p w : ℕ) (k : Kept) (c : Claim) (f : Bool) → Claims size v (n / 8) k c → Given v n p k c.kept c.index → SetsOne size v n false w k (was_set (record { place = Some (suc p); entry = Some c.index; floor = f }) (puts_place c.index (n % 8) (suc p) w c.kept))
+bytes_one : (size v n p w : ℕ) (k : Kept) (c : Claim) (f : Bool) → Claims size v (n / 8) k c → Given v n p k c.kept c.index → (f ≡ false → c.kept.floor ≡ k.floor) → SetsOne size v n false w k (was_set (record { place = Some (suc p); entry = Some c.index; floor = f }) (puts_place c.index (n % 8) (suc p) w c.kept))
 unfolding puts_place
-bytes_one size v n p w k c f x g = record {
+bytes_one size v n p w k c f x g h = record {
   sound = sound;
   found = λ bs d. ap (content (stored_at (Some (suc p)) bs d)) (slot_here size v n (suc p) w k c x _) ∙ ap (λ (t : Bool). cond t bs (d (suc p))) (eq-eqb (suc p) (suc p) refl);
   others = λ bs d u m o. ap (content (stored_at (Some (suc p)) bs d)) (slot_others size v n (suc p) w k c x _ u m o) ∙ untouched bs d u m o (place_of (suc u) m k) refl;
   stamped = slot_stamped size v n (suc p) w k c x _;
   aged = slot_aged size v n (suc p) w k c x _;
+  elsewhere = λ j o. get_or-set_other c.kept.entries c.index j _ free_entry (λ (e : j ≡ c.index). o (ap (λ (z : ℕ). Some z) (sym e))) ∙ x.elsewhere j (λ e. o (ap (λ (z : ℕ). Some z) e));
+  risen = h;
 }
   where
     sound : Sound size (puts_place c.index (n % 8) (suc p) w c.kept)
@@ -137,14 +141,20 @@ bytes_one size v n p w k c f x g = record {
         ap (λ (t : Bool). cond t bs (d (suc q))) (ne_eqb (suc q) (suc p) other)
 
 -- no entry for zeros: the floor rises
-risen_one : (size v n w : ℕ) (k : Kept) (f : Bool) → Sound size k → index_of (suc v) (n / 8) k.entries ≡ None → SetsOne size v n true w k (was_set (record { place = None; entry = None; floor = f }) (raised w k))
-risen_one size v n w k f x none = record {
+risen_one : (size v n w : ℕ) (k : Kept) (f : Bool) → Sound size k → index_of (suc v) (n / 8) k.entries ≡ None → (f ≡ false → max k.floor w ≡ k.floor) → SetsOne size v n true w k (was_set (record { place = None; entry = None; floor = f }) (raised w k))
+risen_one size v n w k f x none g = record {
   sound = record { entries = x.entries; taken = x.taken; none = x.none; eight = x.eight; apart = x.apart; total = x.total; single = x.single };
   found = λ bs d. ap (λ (o : Option ℕ). content d (place_in o (n % 8) (raised w k))) none;
   others = λ bs d u m o. ap (content d) (place_looked (suc u) m (raised w k) ∙ sym (place_looked (suc u) m k));
   stamped = omega arith;
   aged = λ u b o. omega (arith, stamp_looked (suc u) b k, stamp_looked (suc u) b (raised w k));
+  elsewhere = λ j o. refl;
+  risen = g;
 }
+
+-- the floor that didn't rise
+unrisen : (k m : Kept) → is_risen k m ≡ false → m.floor ≡ k.floor
+unrisen k m e = eqb-true m.floor k.floor (not-false (m.floor == k.floor) e)
 
 -- claims fail only where the block has no entry
 no_entry : (v b w : ℕ) (k : Kept) → claims v b w k ≡ None → index_of v b k.entries ≡ None
@@ -162,10 +172,10 @@ set_means size v n w true k r x e = go (claims (suc v) (n / 8) w k) refl e
     go : (o : Option Claim) → claims (suc v) (n / 8) w k ≡ o → sets_blank (n % 8) w o k ≡ Some r → SetsOne size v n true w k r
     go None q f =
         let same : was_set (record { place = None; entry = None; floor = is_risen k (raised w k) }) (raised w k) ≡ r = cc in
-        subst (λ (z : WasSet). SetsOne size v n true w k z) same (risen_one size v n w k _ x (no_entry (suc v) (n / 8) w k q))
+        subst (λ (z : WasSet). SetsOne size v n true w k z) same (risen_one size v n w k _ x (no_entry (suc v) (n / 8) w k q) (unrisen k (raised w k)))
     go (Some c) q f =
         let same : was_set (record { place = None; entry = Some c.index; floor = is_risen k c.kept }) (frees_place c.index (n % 8) w c.kept) ≡ r = cc in
-        subst (λ (z : WasSet). SetsOne size v n true w k z) same (blank_one size v n w k c _ (claims_means size v (n / 8) w k c x q))
+        subst (λ (z : WasSet). SetsOne size v n true w k z) same (blank_one size v n w k c _ (claims_means size v (n / 8) w k c x q) (unrisen k c.kept))
 set_means size v n w false k r x e = go (place_for (suc v) n k) refl (claims (suc v) (n / 8) w k) refl e
   where
     go : (p : Option ℕ) → place_for (suc v) n k ≡ p → (o : Option Claim) → claims (suc v) (n / 8) w k ≡ o → sets_bytes (n % 8) w p o k ≡ Some r → SetsOne size v n false w k r
@@ -175,4 +185,4 @@ set_means size v n w false k r x e = go (place_for (suc v) n k) refl (claims (su
     go (Some (suc p)) g (Some c) q f =
         let same : was_set (record { place = Some (suc p); entry = Some c.index; floor = is_risen k c.kept }) (puts_place c.index (n % 8) (suc p) w c.kept) ≡ r = cc in
         let means : Claims size v (n / 8) k c = claims_means size v (n / 8) w k c x q in
-        subst (λ (z : WasSet). SetsOne size v n false w k z) same (bytes_one size v n p w k c _ means (given size v n p k c means g))
+        subst (λ (z : WasSet). SetsOne size v n false w k z) same (bytes_one size v n p w k c _ means (given size v n p k c means g) (unrisen k c.kept))

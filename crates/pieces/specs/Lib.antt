@@ -1,5 +1,5 @@
 pub mod Layouts
 pub mod Entries
 pub mod Kept
-pub mod Meaning
 pub mod Loads
+pub mod Meaning

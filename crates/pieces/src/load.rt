@@ -1,10 +1,9 @@
 // The directory as it is on the device: sectors of eight entries each.
 ghost use Rattle.std.specs.Prelude.{◌≡◌, ◌+◌, ◌*◌, ◌≤◌, ◌<◌, length, Some, None, IfOk, OnOk, take, drop, MatchOption};
-ghost use Rattle.pieces.specs.Kept.{the_kept, index_of};
+ghost use Rattle.pieces.specs.Kept.{the_kept, index_of, raised};
 ghost use Rattle.pieces.specs.Loads.{sector_bytes, take_new, take_all, restores, load_entry, load_entries, entries_in, is_living};
 
-use crate::entry::{ENTRY_BYTES, Entry};
-use crate::layout::SECTOR_ENTRIES;
+use crate::entry::{ENTRY_BYTES, Entry, Stamp};
 use crate::pieces::{Pieces, position};
 use octets::{BLANK_SECTOR, SECTOR_BYTES};
 use wire::number::*;
@@ -45,6 +44,33 @@ impl Pieces {
         } else {
             Ok(())
         }
+    }
+
+    // A sector of the directory, as it is on the device, when these volumes live. The sectors are loaded into a new directory, one after the
+    // other; where one is broken nothing is said of what is left.
+    pub fn load_sector(
+        &mut self,
+        number: usize,
+        sector: &[u8; SECTOR_BYTES],
+        lives: &[Volume],
+    ) -> Result<(), Broken>
+        requires { 8 * number + 8 ≤ length self.old.entries.items }
+        ensures kept { IfOk result (λ u. load_entries (is_living lives.now) (8 * number) (entries_in 8 sector.now) (the_kept self.old) ≡ Some (the_kept self.new)) }
+        ensures layout { self.new.layout ≡ self.old.layout }
+    {
+        for i in 0..8 {
+            let entry = Entry::read(&sector[ENTRY_BYTES * i..ENTRY_BYTES * i + ENTRY_BYTES]);
+            self.load_entry(8 * number + i, entry, lives)?;
+        }
+        Ok(())
+    }
+
+    // No stamp that is given up is above the floor.
+    pub fn raise_floor(&mut self, floor: Stamp)
+        ensures kept { the_kept self.new ≡ raised floor.0 (the_kept self.old) }
+        ensures layout { self.new.layout ≡ self.old.layout }
+    {
+        self.floor = Stamp(self.floor.0.max(floor.0));
     }
 
     // How a sector of the directory is to be.
