@@ -4,7 +4,7 @@ use Rattle.std.specs.List.{sum_by, count_by}
 use Rattle.std.proofs.lemmas.List.{length-replicate}
 use Rattle.std.proofs.lemmas.List.Folds.{sum_by-replicate}
 use Rattle.std.proofs.lemmas.List.Sums.{sum_by-cons}
-use Rattle.std.proofs.lemmas.Bool.{ne_eqb, and_left}
+
 use Rattle.disks.specs.Device.{zeros}
 use Rattle.pieces.specs.declared.entry.Entry.{Entry}
 use Rattle.pieces.specs.Entries.{is_block, free_entry}
@@ -13,15 +13,13 @@ use Rattle.pieces.specs.Kept.{Kept, blank_kept, place_of}
 use Rattle.pieces.specs.Meaning.{uses_in, held_in, one, is_taken, look, look_in, Sound, content, shown, BlankMeans}
 use Rattle.pieces.proofs.Counting.{no_use, no_held}
 use Rattle.pieces.proofs.Looking.{zeros_at, place_looked}
+use Rattle.pieces.proofs.Forgetting.{no_block}
 
 -- the default, so many times
-defaults : {X : Type 0} (n : ℕ) (d : X) (i : ℕ) → get_or (replicate n d) i d ≡ d
+pub defaults : {X : Type 0} (n : ℕ) (d : X) (i : ℕ) → get_or (replicate n d) i d ≡ d
 defaults zero d i = refl
 defaults (suc n) d zero = refl
 defaults (suc n) d (suc i) = defaults n d i
-
-no_block : (u b : ℕ) → is_block (suc u) b free_entry ≡ false
-no_block u b = and_left (0 == suc u) (0 == b) (ne_eqb 0 (suc u) (λ (z : ◌≡◌ {A = ℕ} 0 (suc u)). absurd (omega arith)))
 
 -- a sum of nothings
 nothing : {X : Type 0} (f : X → ℕ) (n : ℕ) (x : X) → f x ≡ 0 → sum_by f (replicate n x) ≡ 0

@@ -21,7 +21,7 @@ use Rattle.pieces.proofs.Putting.{its_own}
 no_volume : (u : ℕ) → (0 == suc u) ≡ false
 no_volume u = ne_eqb 0 (suc u) (λ (z : ◌≡◌ {A = ℕ} 0 (suc u)). absurd (omega arith))
 
-no_block : (u b : ℕ) → is_block (suc u) b free_entry ≡ false
+pub no_block : (u b : ℕ) → is_block (suc u) b free_entry ≡ false
 no_block u b = and_left (0 == suc u) (0 == b) (no_volume u)
 
 -- slots cleared from the first on
@@ -140,13 +140,13 @@ forget_all size v zero k x l = record { sound = x; gone = λ j m e. absurd (omeg
 forget_all size v (suc n) k x l = forget_more size v n k (forgotten v n k) (omega (arith, long_forgotten v n k)) (forget_all size v n k x (omega arith))
 
 -- two lists whose elements pass alike
-position_alike : {X : Type 0} (f : X → Bool) (xs ys : List X) (d : X) → length xs ≡ length ys → ((j : ℕ) → f (get_or xs j d) ≡ f (get_or ys j d)) → position_or_len f xs ≡ position_or_len f ys
+pub position_alike : {X : Type 0} (f : X → Bool) (xs ys : List X) (d : X) → length xs ≡ length ys → ((j : ℕ) → f (get_or xs j d) ≡ f (get_or ys j d)) → position_or_len f xs ≡ position_or_len f ys
 position_alike f [] [] d l h = refl
 position_alike f [] (y ∷ ys) d l h = absurd (omega arith)
 position_alike f (x ∷ xs) [] d l h = absurd (omega arith)
 position_alike f (x ∷ xs) (y ∷ ys) d l h = rw (h 0, position_alike f xs ys d (omega arith) (λ j. h (suc j))) refl
 
-sum_fewer : {X : Type 0} (g : X → ℕ) (xs ys : List X) (d : X) → length xs ≡ length ys → ((j : ℕ) → g (get_or xs j d) ≤ g (get_or ys j d)) → sum_by g xs ≤ sum_by g ys
+pub sum_fewer : {X : Type 0} (g : X → ℕ) (xs ys : List X) (d : X) → length xs ≡ length ys → ((j : ℕ) → g (get_or xs j d) ≤ g (get_or ys j d)) → sum_by g xs ≤ sum_by g ys
 sum_fewer g [] [] d l h = omega arith
 sum_fewer g [] (y ∷ ys) d l h = absurd (omega arith)
 sum_fewer g (x ∷ xs) [] d l h = absurd (omega arith)
