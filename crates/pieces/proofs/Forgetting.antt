@@ -162,15 +162,15 @@ module _ (size v : ℕ) (k : Kept) (x : Sound size k) where
   long : length m.entries ≡ length k.entries
   long = long_forgotten (suc v) (length k.entries) k
 
-  gone : (j : ℕ) → (entry_at j k).volume.0 ≡ suc v → entry_at j m ≡ free_entry
-  gone j e = go (cases_lt j (length k.entries))
+  pub entry_forgotten : (j : ℕ) → (entry_at j k).volume.0 ≡ suc v → entry_at j (forgotten (suc v) (length k.entries) k) ≡ free_entry
+  entry_forgotten j e = go (cases_lt j (length k.entries))
     where
       go : (j < length k.entries) ⊎ (length k.entries ≤ j) → entry_at j m ≡ free_entry
       go (inl l) = f.gone j l e
       go (inr g) = get_or_past m.entries j free_entry (omega (arith, long))
 
-  kept : (j : ℕ) → (entry_at j k).volume.0 ≢ suc v → entry_at j m ≡ entry_at j k
-  kept j e = go (cases_lt j (length k.entries))
+  pub entry_stays : (j : ℕ) → (entry_at j k).volume.0 ≢ suc v → entry_at j (forgotten (suc v) (length k.entries) k) ≡ entry_at j k
+  entry_stays j e = go (cases_lt j (length k.entries))
     where
       go : (j < length k.entries) ⊎ (length k.entries ≤ j) → entry_at j m ≡ entry_at j k
       go (inl l) = f.kept j l e
@@ -184,8 +184,8 @@ module _ (size v : ℕ) (k : Kept) (x : Sound size k) where
   look_gone b = look_in_none (suc v) b m.entries (none_from_zero (is_block (suc v) b) m.entries free_entry (none_counted (is_block (suc v) b) m.entries free_entry (λ j l. fails j (either j))))
     where
       fails : (j : ℕ) → ((entry_at j k).volume.0 ≡ suc v) ⊎ ((entry_at j k).volume.0 ≢ suc v) → is_block (suc v) b (entry_at j m) ≡ false
-      fails j (inl e) = ap (is_block (suc v) b) (gone j e) ∙ and_left (0 == suc v) (0 == b) (no_volume v)
-      fails j (inr e) = ap (is_block (suc v) b) (kept j e) ∙ and_left ((entry_at j k).volume.0 == suc v) ((entry_at j k).block.0 == b) (ne_eqb (entry_at j k).volume.0 (suc v) e)
+      fails j (inl e) = ap (is_block (suc v) b) (entry_forgotten j e) ∙ and_left (0 == suc v) (0 == b) (no_volume v)
+      fails j (inr e) = ap (is_block (suc v) b) (entry_stays j e) ∙ and_left ((entry_at j k).volume.0 == suc v) ((entry_at j k).block.0 == b) (ne_eqb (entry_at j k).volume.0 (suc v) e)
 
   look_kept : (u b : ℕ) → u ≢ v → look (suc u) b m.entries ≡ look (suc u) b k.entries
   look_kept u b o = ap (λ (z : Option ℕ). look_in z m.entries) same ∙ go (index_of (suc u) b k.entries) refl
@@ -193,8 +193,8 @@ module _ (size v : ℕ) (k : Kept) (x : Sound size k) where
       alike : (j : ℕ) → ((entry_at j k).volume.0 ≡ suc v) ⊎ ((entry_at j k).volume.0 ≢ suc v) → is_block (suc u) b (entry_at j m) ≡ is_block (suc u) b (entry_at j k)
       alike j (inl e) =
           let other : (entry_at j k).volume.0 ≢ suc u = λ z. o (omega (arith, e, z)) in
-          ap (is_block (suc u) b) (gone j e) ∙ and_left (0 == suc u) (0 == b) (no_volume u) ∙ sym (and_left ((entry_at j k).volume.0 == suc u) ((entry_at j k).block.0 == b) (ne_eqb (entry_at j k).volume.0 (suc u) other))
-      alike j (inr e) = ap (is_block (suc u) b) (kept j e)
+          ap (is_block (suc u) b) (entry_forgotten j e) ∙ and_left (0 == suc u) (0 == b) (no_volume u) ∙ sym (and_left ((entry_at j k).volume.0 == suc u) ((entry_at j k).block.0 == b) (ne_eqb (entry_at j k).volume.0 (suc u) other))
+      alike j (inr e) = ap (is_block (suc u) b) (entry_stays j e)
 
       same : index_of (suc u) b m.entries ≡ index_of (suc u) b k.entries
       same = rw (position_alike (is_block (suc u) b) m.entries k.entries free_entry long (λ j. alike j (either j)), long) refl
@@ -203,7 +203,7 @@ module _ (size v : ℕ) (k : Kept) (x : Sound size k) where
       go None q = refl
       go (Some i) q =
           let t = both_true ((entry_at i k).volume.0 == suc u) ((entry_at i k).block.0 == b) (its_own (suc u) b i k.entries q) in
-          kept i (λ e. o (omega (arith, e, eqb-true (entry_at i k).volume.0 (suc u) t.0)))
+          entry_stays i (λ e. o (omega (arith, e, eqb-true (entry_at i k).volume.0 (suc u) t.0)))
 
   pub forget_means : Forgets size v k (forgotten (suc v) (length k.entries) k)
   forget_means = record {
@@ -215,5 +215,5 @@ module _ (size v : ℕ) (k : Kept) (x : Sound size k) where
   }
     where
       less : (j : ℕ) → ((entry_at j k).volume.0 ≡ suc v) ⊎ ((entry_at j k).volume.0 ≢ suc v) → held_in (entry_at j m) ≤ held_in (entry_at j k)
-      less j (inl e) = omega (arith, ap held_in (gone j e), no_held free_entry.places refl)
-      less j (inr e) = omega (arith, ap held_in (kept j e))
+      less j (inl e) = omega (arith, ap held_in (entry_forgotten j e), no_held free_entry.places refl)
+      less j (inr e) = omega (arith, ap held_in (entry_stays j e))

@@ -137,3 +137,10 @@ LoadMeans =
 pub record LoadsSectors : Type 0 where
   pub append : (lives : ℕ → Bool) (i : ℕ) (xs ys : List Entry) (k : Kept) → load_entries lives i (xs ++ ys) k ≡ then_load (load_entries lives (i + length xs) ys) (load_entries lives i xs k)
   pub sector : (j : ℕ) (k : Kept) → ((i : ℕ) → FitsBytes (entry_at i k)) → 8 * j + 8 ≤ length k.entries → entries_in 8 (sector_bytes j k) ≡ take 8 (drop (8 * j) k.entries)
+
+-- What is on the device stays what is kept: when a sector was set and its entry's sector written, when a volume is gone, and when fewer live.
+pub record StaysOnDevice : Type 0 where
+  pub set_written : (size v n w : ℕ) (blank : Bool) (lives : ℕ → Bool) (k : Kept) (r : WasSet) (es fs : List Entry) → SetsOne size v n blank w k r → Sound size k → OnDevice lives es k → length fs ≡ length es →
+      ((j : ℕ) → (slice_index_or fs j free_entry ≡ entry_at j r.kept) ⊎ ((slice_index_or fs j free_entry ≡ slice_index_or es j free_entry) × (r.writes.entry ≡ Some j → ⊥))) → OnDevice lives fs r.kept
+  pub forgotten_unwritten : (size v : ℕ) (lives : ℕ → Bool) (k : Kept) (es : List Entry) → Sound size k → lives (suc v) ≡ false → OnDevice lives es k → OnDevice lives es (forgotten (suc v) (length k.entries) k)
+  pub fewer_live : (lives fewer : ℕ → Bool) (k : Kept) (es : List Entry) → ((v : ℕ) → fewer v ≡ true → lives v ≡ true) → OnDevice lives es k → OnDevice fewer es k

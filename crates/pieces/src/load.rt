@@ -1,5 +1,6 @@
 // The directory as it is on the device: sectors of eight entries each.
 ghost use Rattle.std.specs.Prelude.{◌≡◌, ◌+◌, ◌*◌, ◌≤◌, ◌<◌, length, Some, None, IfOk, OnOk, take, drop, MatchOption};
+ghost use Rattle.pieces.specs.Meaning.{LoadMeans, LoadsSectors, StaysOnDevice};
 ghost use Rattle.pieces.specs.Kept.{the_kept, index_of, raised};
 ghost use Rattle.pieces.specs.Loads.{sector_bytes, take_new, take_all, restores, load_entry, load_entries, entries_in, is_living};
 
@@ -46,6 +47,7 @@ impl Pieces {
         }
     }
 
+    #[tactic(auto, using(crate::proofs::Promised::load_promised))]
     // A sector of the directory, as it is on the device, when these volumes live. The sectors are loaded into a new directory, one after the
     // other; where one is broken nothing is said of what is left.
     pub fn load_sector(
@@ -56,6 +58,9 @@ impl Pieces {
     ) -> Result<(), Broken>
         requires { 8 * number + 8 ≤ length self.old.entries.items }
         ensures kept { IfOk result (λ u. load_entries (is_living lives.now) (8 * number) (entries_in 8 sector.now) (the_kept self.old) ≡ Some (the_kept self.new)) }
+        ensures means { LoadMeans }
+        ensures sectors { LoadsSectors }
+        ensures stays { StaysOnDevice }
         ensures layout { self.new.layout ≡ self.old.layout }
     {
         for i in 0..8 {
