@@ -3,3 +3,4 @@ pub mod Entries
 pub mod Kept
 pub mod Loads
 pub mod Meaning
+pub mod Changes

@@ -1,6 +1,7 @@
 // Where the sectors of volumes lie on one house's device. It knows places and versions; it reads and writes nothing itself.
 #![tactic(auto)]
 
+pub mod changed;
 pub mod entry;
 pub mod forget;
 pub mod layout;
