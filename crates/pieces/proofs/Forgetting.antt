@@ -58,13 +58,13 @@ all_zero_at [] h = refl
 all_zero_at (q ∷ qs) h = rw (eq-eqb q 0 (h 0 (omega arith))) (all_zero_at qs (λ s l. h (suc s) (omega arith)))
 
 -- an entry that was given up
-record Vacated (size i : ℕ) (k m : Kept) : Type 0 where
-  sound : Sound size m
-  here : entry_at i m ≡ free_entry
-  others : (j : ℕ) → j ≢ i → entry_at j m ≡ entry_at j k
-  floor : m.floor ≡ k.floor
+pub record Vacated (size i : ℕ) (k m : Kept) : Type 0 where
+  pub sound : Sound size m
+  pub here : entry_at i m ≡ free_entry
+  pub others : (j : ℕ) → j ≢ i → entry_at j m ≡ entry_at j k
+  pub floor : m.floor ≡ k.floor
 
-vacate : (size i : ℕ) (k : Kept) → Sound size k → i < length k.entries → Vacated size i k (vacated i k)
+pub vacate : (size i : ℕ) (k : Kept) → Sound size k → i < length k.entries → Vacated size i k (vacated i k)
 unfolding vacated
 vacate size i k x inside =
     let c = clear size i 8 k x inside (omega arith) in
@@ -151,6 +151,12 @@ sum_fewer g [] [] d l h = omega arith
 sum_fewer g [] (y ∷ ys) d l h = absurd (omega arith)
 sum_fewer g (x ∷ xs) [] d l h = absurd (omega arith)
 sum_fewer g (x ∷ xs) (y ∷ ys) d l h = omega (arith, sum_by-cons g x xs, sum_by-cons g y ys, h 0, sum_fewer g xs ys d (omega arith) (λ j. h (suc j)))
+
+pub sum_one_less : {X : Type 0} (g : X → ℕ) (xs ys : List X) (d : X) (i : ℕ) → length xs ≡ length ys → i < length ys → ((j : ℕ) → g (get_or xs j d) ≤ g (get_or ys j d)) → g (get_or xs i d) < g (get_or ys i d) → sum_by g xs < sum_by g ys
+sum_one_less g [] ys d i l m h s = absurd (omega arith)
+sum_one_less g (x ∷ xs) [] d i l m h s = absurd (omega arith)
+sum_one_less g (x ∷ xs) (y ∷ ys) d zero l m h s = omega (arith, sum_by-cons g x xs, sum_by-cons g y ys, sum_fewer g xs ys d (omega arith) (λ j. h (suc j)))
+sum_one_less g (x ∷ xs) (y ∷ ys) d (suc i) l m h s = omega (arith, sum_by-cons g x xs, sum_by-cons g y ys, h 0, sum_one_less g xs ys d i (omega arith) (omega arith) (λ j. h (suc j)) s)
 
 module _ (size v : ℕ) (k : Kept) (x : Sound size k) where
   abbrev m : Kept

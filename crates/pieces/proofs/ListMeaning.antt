@@ -17,7 +17,7 @@ use Rattle.pieces.proofs.Nearest.{Before, NotBefore, before, not_before, is_befo
 clash : {A : Type 0} → false ≡ true → A
 clash e = let z : ◌≡◌ {A = ℕ} 0 1 = cc in absurd (omega arith)
 
-same_key : (v b : ℕ) (e : Entry) → is_block v b e ≡ true → entry_key e ≡ key_of v b
+pub same_key : (v b : ℕ) (e : Entry) → is_block v b e ≡ true → entry_key e ≡ key_of v b
 same_key v b e t =
     let p = both_true (e.volume.0 == v) (e.block.0 == b) t in
     ap (λ (n : ℕ). key_of n e.block.0) (eqb-true e.volume.0 v p.0) ∙ ap (λ (n : ℕ). key_of v n) (eqb-true e.block.0 b p.1)

@@ -17,3 +17,6 @@ vacant_in es i e = go (position is_free es) refl e
     go (Some j) q r = (position-Some is_free es i free_entry (q ∙ r)).0
 
 pub ruleset in_range = (index_in, vacant_in)
+
+pub first_in : (f : Entry → Bool) (es : List Entry) (i : ℕ) → position f es ≡ Some i → i < length es
+first_in f es i e = (position-Some f es i free_entry e).0

@@ -4,3 +4,4 @@ pub mod Kept
 pub mod Loads
 pub mod Meaning
 pub mod Changes
+pub mod Ranges

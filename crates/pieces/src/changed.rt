@@ -33,7 +33,7 @@ impl Key {
 }
 
 impl Entry {
-    fn key(&self) -> Key
+    pub(crate) fn key(&self) -> Key
         ensures { result ≡ record { volume = self.now.volume; block = self.now.block } }
     {
         Key {

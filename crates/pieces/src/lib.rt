@@ -7,4 +7,5 @@ pub mod forget;
 pub mod layout;
 pub mod load;
 pub mod pieces;
+pub mod replace;
 pub mod set;
