@@ -5,3 +5,4 @@ pub mod Loads
 pub mod Meaning
 pub mod Changes
 pub mod Ranges
+pub mod Tables

@@ -6,6 +6,8 @@ pub mod entry;
 pub mod forget;
 pub mod layout;
 pub mod load;
+pub mod piece;
 pub mod pieces;
 pub mod replace;
 pub mod set;
+pub mod table;
