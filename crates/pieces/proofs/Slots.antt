@@ -66,9 +66,9 @@ now_there ps i v b y l ev en e =
 -- A WORD CHANGES
 same_piece : (v b u c : ℕ) (p : Piece) → is_same v b u c ≡ true → is_piece v (b / 1024) p ≡ is_piece u (c / 1024) p
 same_piece v b u c p e =
-    let f = and_parts (u == v) (c == b) e in
-    let eu : u ≡ v = eqb-true u v f.0 in
-    let ec : c ≡ b = eqb-true c b f.1 in
+    let f = and_parts (v == u) (b == c) e in
+    let eu : v ≡ u = eqb-true v u f.0 in
+    let ec : b ≡ c = eqb-true b c f.1 in
     rw (eu, ec) refl
 
 module _ (v b w : ℕ) (p q : Piece) (sv : q.volume.0 ≡ p.volume.0) (sn : q.number ≡ p.number) (sw : vec_items q.words ≡ set (vec_items p.words) (b % 1024) w) (long : length (vec_items p.words) ≡ 1024) where
@@ -88,10 +88,10 @@ module _ (v b w : ℕ) (p q : Piece) (sv : q.volume.0 ≡ p.volume.0) (sn : q.nu
       go : (c % 1024 ≡ b % 1024) ⊎ (c % 1024 ≡ b % 1024 → ⊥) → word_of c q ≡ cond (is_same v b u c) w (word_of c p)
       go (inl e) =
           let whole : c ≡ b = omega (arith, sc) in
-          let is : is_same v b u c ≡ true = and_from (u == v) (c == b) (eq-eqb u v su) (eq-eqb c b whole) in
+          let is : is_same v b u c ≡ true = and_from (v == u) (b == c) (eq-eqb v u (sym su)) (eq-eqb b c (sym whole)) in
           ap (λ (ws : List ℕ). get_or ws (c % 1024) 0) sw ∙ ap (λ (n : ℕ). get_or (set (vec_items p.words) (b % 1024) w) n 0) e ∙ get_or-set_same (vec_items p.words) (b % 1024) w 0 (omega (arith, long)) ∙ sym (ap (λ (t : Bool). cond t w (word_of c p)) is)
       go (inr o) =
-          let is : is_same v b u c ≡ false = and_right (u == v) (c == b) (ne_eqb c b (λ e. o (ap (λ (n : ℕ). n % 1024) e))) in
+          let is : is_same v b u c ≡ false = and_right (v == u) (b == c) (ne_eqb b c (λ e. o (ap (λ (n : ℕ). n % 1024) (sym e)))) in
           ap (λ (ws : List ℕ). get_or ws (c % 1024) 0) sw ∙ get_or-set_other (vec_items p.words) (b % 1024) (c % 1024) w 0 o ∙ sym (ap (λ (t : Bool). cond t w (word_of c p)) is)
 
   slot_changed : (ps : List Piece) (i : ℕ) (d : Piece) (u c : ℕ) → i < length ps → get_or ps i d ≡ p → is_piece v (b / 1024) p ≡ true → ((j : ℕ) → j < i → is_piece v (b / 1024) (get_or ps j d) ≡ false) → slot_in (set ps i q) u c ≡ cond (is_same v b u c) w (slot_in ps u c)
@@ -129,8 +129,8 @@ slot_absent ps v b d e = λ u c. go u c (is_same v b u c) refl
   where
     go : (u c : ℕ) (s : Bool) → is_same v b u c ≡ s → slot_in ps u c ≡ cond (is_same v b u c) 0 (slot_in ps u c)
     go u c true s =
-        let f = and_parts (u == v) (c == b) s in
-        let zero_here : slot_in ps u c ≡ 0 = rw (eqb-true u v f.0, eqb-true c b f.1) (slot_missing ps v b d e) in
+        let f = and_parts (v == u) (b == c) s in
+        let zero_here : slot_in ps u c ≡ 0 = rw (sym (eqb-true v u f.0), sym (eqb-true b c f.1)) (slot_missing ps v b d e) in
         zero_here ∙ sym (ap (λ (z : Bool). cond z 0 (slot_in ps u c)) s)
     go u c false s = sym (ap (λ (z : Bool). cond z 0 (slot_in ps u c)) s)
 

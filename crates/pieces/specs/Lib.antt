@@ -6,3 +6,4 @@ pub mod Meaning
 pub mod Changes
 pub mod Ranges
 pub mod Tables
+pub mod Agreements

@@ -15,7 +15,7 @@ slot_in [] v b = 0
 slot_in (p ∷ ps) v b = cond (is_piece v (b / 1024) p) (word_of b p) (slot_in ps v b)
 
 abbrev pub is_same : (v b u c : ℕ) → Bool
-is_same v b u c = u == v && c == b
+is_same v b u c = v == u && b == c
 
 -- one block has another word, all others those that they had
 abbrev pub SlotPut : (volume block word : ℕ) → List Piece → List Piece → Type 0

@@ -96,4 +96,38 @@ impl Table {
             put_word(self.pieces[at].words.as_mut_slice(), block, word);
         }
     }
+
+    // A block's piece is there.
+    fn ensure(&mut self, heap: Global, volume: Volume, block: Block) -> Result<(), AllocError>
+        ensures slots { SlotsSame self.old.pieces.items self.new.pieces.items }
+        ensures there { OnOk result (position (is_piece volume.0 (block.0 / 1024)) self.new.pieces.items ≢ None) }
+    {
+        match position(self.pieces.as_slice(), volume, number_of(block)) {
+            Some(_) => Ok(()),
+            None => self.add(heap, volume, block),
+        }
+    }
+
+    // A block has this word from now on. Takes memory for its piece, if it has none; where there is none nothing changes.
+    pub fn put(
+        &mut self,
+        heap: Global,
+        volume: Volume,
+        block: Block,
+        word: u64,
+    ) -> Result<(), AllocError>
+        ensures put { OnOk result (SlotPut volume.0 block.0 word self.old.pieces.items self.new.pieces.items) }
+        ensures same { OnErr result (SlotsSame self.old.pieces.items self.new.pieces.items) }
+    {
+        self.ensure(heap, volume, block)?;
+        self.put_there(volume, block, word);
+        Ok(())
+    }
+
+    // A block has no entry from now on.
+    pub fn clear(&mut self, volume: Volume, block: Block)
+        ensures { SlotPut volume.0 block.0 0 self.old.pieces.items self.new.pieces.items }
+    {
+        self.put_there(volume, block, 0);
+    }
 }
