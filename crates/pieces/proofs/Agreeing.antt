@@ -1,5 +1,5 @@
 -- The table agrees with the directory when an entry is placed, given up or changed.
-use Rattle.std.proofs.Common.{◌≡◌, ◌≢◌, ◌⊎◌, inl, inr, ℕ, zero, suc, ◌+◌, ◌-◌, ◌<◌, ◌≤◌, Bool, true, false, cond, ◌&&◌, ◌==◌, List, [], ◌∷◌, length, get_or, set, Some, None, Option, refl, sym, ap, ◌∙◌, subst, arith}
+use Rattle.std.proofs.Common.{◌≡◌, ◌≢◌, ◌⊎◌, inl, inr, ℕ, zero, suc, ◌+◌, ◌-◌, ◌<◌, ◌≤◌, Bool, true, false, cond, ◌&&◌, ◌==◌, List, [], ◌∷◌, length, get_or, set, replicate, Some, None, Option, refl, sym, ap, ◌∙◌, subst, arith}
 use Rattle.std.specs.List.{position, count_by}
 use Rattle.std.proofs.lemmas.List.Sums.{sum_by-set}
 use Rattle.std.proofs.lemmas.Bool.{eqb-true, ne_eqb}
@@ -11,8 +11,10 @@ use Rattle.pieces.specs.Meaning.{one}
 use Rattle.pieces.specs.Tables.{slot_in, is_same, SlotPut, SlotsSame}
 use Rattle.pieces.specs.Agreements.{as_word, Agrees, IsSingle}
 use Rattle.pieces.proofs.Bytes.{both_true}
-use Rattle.pieces.proofs.Counting.{none_of, none_counted, position-set_same, position-set_new, position-set_gone}
+use Rattle.pieces.proofs.Counting.{none_of, none_counted, none_from_zero, position-set_same, position-set_new, position-set_gone}
 use Rattle.pieces.proofs.Forgetting.{no_block}
+use Rattle.pieces.proofs.Blank.{nothing}
+use Rattle.std.proofs.lemmas.List.{get_or_default}
 
 clash : {A : Type 0} → false ≡ true → A
 clash e = let z : ◌≡◌ {A = ℕ} 0 1 = cc in absurd (omega arith)
@@ -94,3 +96,28 @@ single_changed es i s p w l h u a = omega (arith, sum_by-set (λ (z : Entry). co
 
 pub agrees_changed : (ps : List Piece) (es : List Entry) (i s p w : ℕ) → Agrees ps es → Agrees ps (set es i (with_place s p w (get_or es i free_entry)))
 agrees_changed ps es i s p w a u c = a u c ∙ sym (ap as_word (position-set_same (is_block (suc u) c) es i (with_place s p w (get_or es i free_entry)) free_entry refl))
+
+-- THE SAME, of entries as the code reads them
+read_as : (es : List Entry) (i : ℕ) (d : Entry) → i < length es → d ≡ get_or es i d → d ≡ get_or es i free_entry
+read_as es i d l e = e ∙ get_or_default es i d free_entry l
+
+pub changed_invariants : (ps : List Piece) (es : List Entry) (i s p w : ℕ) (d y : Entry) → i < length es → d ≡ get_or es i d → y ≡ with_place s p w d → IsSingle es → Agrees ps es → Agrees ps (set es i y) × IsSingle (set es i y)
+changed_invariants ps es i s p w d y l e q h a =
+    let same : y ≡ with_place s p w (get_or es i free_entry) = q ∙ ap (with_place s p w) (read_as es i d l e) in
+    (subst (λ (z : Entry). Agrees ps (set es i z)) (sym same) (agrees_changed ps es i s p w a), subst (λ (z : Entry). IsSingle (set es i z)) (sym same) (single_changed es i s p w l h))
+
+pub placed_invariants : (ps qs rs : List Piece) (es : List Entry) (j : ℕ) (y d : Entry) → j < length es → IsSingle es → index_of y.volume.0 y.block.0 es ≡ None → Agrees ps es → SlotPut y.volume.0 y.block.0 (j + 1) ps qs → d ≡ get_or es j d → SlotPut d.volume.0 d.block.0 0 qs rs → Agrees rs (set es j y) × IsSingle (set es j y)
+placed_invariants ps qs rs es j y d l h f a p e q =
+    let fresh : (v : ℕ) → y.volume.0 ≡ suc v → index_of (suc v) y.block.0 es ≡ None = λ v g. sym (ap (λ (n : ℕ). index_of n y.block.0 es) g) ∙ f in
+    let more : j + 1 ≡ suc j = omega arith in
+    (agrees_placed es j y l h fresh ps qs rs a (subst (λ (n : ℕ). SlotPut y.volume.0 y.block.0 n ps qs) more p) (subst (λ (z : Entry). SlotPut z.volume.0 z.block.0 0 qs rs) (read_as es j d l e) q), single_placed es j y l h fresh)
+
+pub freed_invariants : (ps rs : List Piece) (es : List Entry) (j : ℕ) (y d : Entry) → j < length es → IsSingle es → Agrees ps es → d ≡ get_or es j d → SlotPut d.volume.0 d.block.0 0 ps rs → y ≡ free_entry → Agrees rs (set es j y) × IsSingle (set es j y)
+freed_invariants ps rs es j y d l h a e q f =
+    (subst (λ (z : Entry). Agrees rs (set es j z)) (sym f) (agrees_freed ps rs es j l h a (subst (λ (z : Entry). SlotPut z.volume.0 z.block.0 0 ps rs) (read_as es j d l e) q)), subst (λ (z : Entry). IsSingle (set es j z)) (sym f) (single_freed es j l h))
+
+pub new_invariants : (ps : List Piece) (es : List Entry) (n : ℕ) (y : Entry) → ((v b : ℕ) → slot_in ps v b ≡ 0) → es ≡ replicate n y → y ≡ free_entry → Agrees ps es × IsSingle es
+new_invariants ps es n y z e f =
+    let same : replicate n free_entry ≡ es = sym (e ∙ ap (λ (x : Entry). replicate n x) f) in
+    (subst (Agrees ps) same (λ v b. z (suc v) b ∙ sym (ap as_word (none_from_zero (is_block (suc v) b) (replicate n free_entry) free_entry (nothing (λ (x : Entry). cond (is_block (suc v) b x) 1 0) n free_entry (ap one (no_block v b)))))),
+    subst IsSingle same (λ v b. omega (arith, nothing (λ (x : Entry). cond (is_block (suc v) b x) 1 0) n free_entry (ap one (no_block v b)))))

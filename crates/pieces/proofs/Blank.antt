@@ -22,7 +22,7 @@ defaults (suc n) d zero = refl
 defaults (suc n) d (suc i) = defaults n d i
 
 -- a sum of nothings
-nothing : {X : Type 0} (f : X → ℕ) (n : ℕ) (x : X) → f x ≡ 0 → sum_by f (replicate n x) ≡ 0
+pub nothing : {X : Type 0} (f : X → ℕ) (n : ℕ) (x : X) → f x ≡ 0 → sum_by f (replicate n x) ≡ 0
 nothing f n x e = sum_by-replicate f n x ∙ ap (λ (m : ℕ). n * m) e ∙ omega arith
 
 pub blank_sound : (size : ℕ) → Sound size (blank_kept size)

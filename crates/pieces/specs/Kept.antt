@@ -3,9 +3,11 @@
 use Rattle.std.specs.Prelude.{◌≡◌, ℕ, zero, suc, ◌+◌, ◌*◌, ◌/◌, ◌%◌, max, Bool, true, false, cond, not, List, [], ◌∷◌, replicate, ◌==◌, nat_lt, Some, None, Option, Ok, Err, Result, ◌<◌, length, vec_items, slice_index_or, slice_set}
 use Rattle.std.specs.List.{position}
 use Rattle.pieces.specs.declared.entry.Entry.{Entry}
-use Rattle.pieces.specs.declared.pieces.Pieces.{Pieces}
+use Rattle.pieces.specs.declared.state.Pieces.{Pieces}
 use Rattle.pieces.specs.declared.set.Writes.{Writes}
-use Rattle.pieces.specs.declared.set.NoRoom.{NoRoom}
+use Rattle.pieces.specs.declared.set.Unset.{Unset}
+use Rattle.pieces.specs.declared.set.Unset.TheVariants.{NoRoom, NoMemory}
+use Rattle.std.specs.declared.alloc.AllocError.{AllocError}
 use Rattle.pieces.specs.Entries.{marker, free_entry, is_block, is_empty, is_free}
 use Rattle.pieces.specs.Layouts.{places_of, entries_of}
 
@@ -104,9 +106,10 @@ unfoldable pub claims : (volume block stamp : ℕ) → Kept → Option Claim
 claims v b w k = claims_of v b w (index_of v b k.entries) k
 
 -- what claiming came to
-abbrev pub WasClaimed : (volume block stamp : ℕ) → Kept → Option ℕ → Kept → Type 0
-WasClaimed v b w k None m = (claims v b w k ≡ None) × (m ≡ k)
-WasClaimed v b w k (Some i) m = (claims v b w k ≡ Some (claimed i m)) × (i < length m.entries)
+abbrev pub WasClaimed : (volume block stamp : ℕ) → Kept → Result (Option ℕ) AllocError → Kept → Type 0
+WasClaimed v b w k (Err e) m = m ≡ k
+WasClaimed v b w k (Ok None) m = (claims v b w k ≡ None) × (m ≡ k)
+WasClaimed v b w k (Ok (Some i)) m = (claims v b w k ≡ Some (claimed i m)) × (i < length m.entries)
 
 -- A SECTOR IS WRITTEN
 pub record WasSet : Type 0 where
@@ -141,10 +144,11 @@ unfoldable pub sets : (volume sector : ℕ) → (blank : Bool) → (stamp : ℕ)
 sets v n true w k = sets_blank (n % 8) w (claims v (n / 8) w k) k
 sets v n false w k = sets_bytes (n % 8) w (place_for v n k) (claims v (n / 8) w k) k
 
--- what setting came to; where there is no room nothing changes
-abbrev pub DoesSet : (volume sector : ℕ) → (blank : Bool) → (stamp : ℕ) → Kept → Result Writes NoRoom → Kept → Type 0
+-- what setting came to; where there is no room, or no memory, nothing changes
+abbrev pub DoesSet : (volume sector : ℕ) → (blank : Bool) → (stamp : ℕ) → Kept → Result Writes Unset → Kept → Type 0
 DoesSet v n blank w k (Ok r) m = sets v n blank w k ≡ Some (was_set r m)
-DoesSet v n blank w k (Err e) m = (sets v n blank w k ≡ None) × (m ≡ k)
+DoesSet v n blank w k (Err NoRoom) m = (sets v n blank w k ≡ None) × (m ≡ k)
+DoesSet v n blank w k (Err NoMemory) m = m ≡ k
 
 -- A VOLUME IS GONE: its entries are free, and their places.
 unfoldable pub cleared : (index slots : ℕ) → Kept → Kept

@@ -4,7 +4,7 @@ ghost use Rattle.pieces.specs.Kept.{the_kept};
 ghost use Rattle.pieces.specs.Changes.{is_before, is_newer, is_wanted, is_nearer, nearest_of, nearest, next_number, key_behind, listed, ListMeans};
 
 use crate::entry::{Block, Entry, Stamp};
-use crate::pieces::Pieces;
+use crate::state::Pieces;
 use std::alloc::{AllocError, Global};
 use wire::number::*;
 

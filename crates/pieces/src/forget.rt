@@ -3,8 +3,8 @@ ghost use Rattle.std.specs.Prelude.{◌≡◌, ◌<◌, length};
 ghost use Rattle.pieces.specs.Meaning.{ForgetMeans};
 ghost use Rattle.pieces.specs.Kept.{the_kept, vacated, forgets_at, forgotten};
 
-use crate::entry::{BLOCK_SECTORS, Entry, Stamp};
-use crate::pieces::Pieces;
+use crate::entry::{BLOCK_SECTORS, Stamp};
+use crate::state::Pieces;
 use wire::number::*;
 
 impl Pieces {
@@ -18,7 +18,7 @@ impl Pieces {
         for slot in 0..BLOCK_SECTORS {
             self.free_place(index, slot, Stamp(0));
         }
-        self.entries[index] = Entry::free();
+        self.free_entry(index);
     }
 
     // So if it is of this volume.

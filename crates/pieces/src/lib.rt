@@ -10,4 +10,5 @@ pub mod piece;
 pub mod pieces;
 pub mod replace;
 pub mod set;
+pub mod state;
 pub mod table;

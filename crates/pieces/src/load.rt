@@ -1,47 +1,62 @@
 // The directory as it is on the device: sectors of eight entries each.
 ghost use Rattle.std.specs.Prelude.{◌≡◌, ◌+◌, ◌*◌, ◌≤◌, ◌<◌, length, Some, None, IfOk, OnOk, take, drop, MatchOption};
+ghost use Rattle.pieces.specs.declared.load.Unloaded.TheVariants.{NoMemory};
 ghost use Rattle.pieces.specs.Meaning.{LoadMeans, LoadsSectors, StaysOnDevice};
 ghost use Rattle.pieces.specs.Kept.{the_kept, index_of, raised};
 ghost use Rattle.pieces.specs.Loads.{sector_bytes, take_new, take_all, restores, load_entry, load_entries, entries_in, is_living};
 
 use crate::entry::{ENTRY_BYTES, Entry, Stamp};
-use crate::pieces::{Pieces, position};
+use crate::state::Pieces;
+use std::alloc::{AllocError, Global};
 use octets::{BLANK_SECTOR, SECTOR_BYTES};
 use wire::number::*;
 
-// The directory contradicts itself: a place or a block twice, or a place that the device hasn't.
+// Why a directory isn't loaded.
 #[derive(Clone, Copy, Debug, PartialEq, Eq)]
-pub struct Broken;
+pub enum Unloaded {
+    // it contradicts itself: a place or a block twice, or a place that the device hasn't
+    Broken,
+    NoMemory,
+}
+
+impl From<AllocError> for Unloaded {
+    ghost from_gives = { λ e n. n ≡ NoMemory };
+
+    fn from(_: AllocError) -> Unloaded {
+        Unloaded::NoMemory
+    }
+}
 
 impl Pieces {
     // An entry comes back from the device.
     #[tactic(auto, unfolding(crate::specs::Loads::restores))]
-    fn restore(&mut self, index: usize, entry: Entry) -> Result<(), Broken>
+    fn restore(&mut self, heap: Global, index: usize, entry: Entry) -> Result<(), Unloaded>
         requires { index < length self.old.entries.items }
         ensures kept { IfOk result (λ u. restores index entry (the_kept self.old) ≡ Some (the_kept self.new)) }
         ensures layout { self.new.layout ≡ self.old.layout }
     {
-        if position(self.entries.as_slice(), entry.volume, entry.block).is_some() {
-            return Err(Broken);
+        if self.index_of(entry.volume, entry.block).is_some() {
+            return Err(Unloaded::Broken);
         }
         take_places(self.taken.as_mut_slice(), &entry.places)?;
-        self.entries[index] = entry;
+        self.place_entry(heap, index, entry)?;
         Ok(())
     }
 
     // So if its volume lives; else it is free.
     fn load_entry(
         &mut self,
+        heap: Global,
         index: usize,
         entry: Entry,
         lives: &[Volume],
-    ) -> Result<(), Broken>
+    ) -> Result<(), Unloaded>
         requires { index < length self.old.entries.items }
         ensures kept { IfOk result (λ u. load_entry (is_living lives.now) index entry (the_kept self.old) ≡ Some (the_kept self.new)) }
         ensures layout { self.new.layout ≡ self.old.layout }
     {
         if lives.contains(&entry.volume) {
-            self.restore(index, entry)
+            self.restore(heap, index, entry)
         } else {
             Ok(())
         }
@@ -52,10 +67,11 @@ impl Pieces {
     // other; where one is broken nothing is said of what is left.
     pub fn load_sector(
         &mut self,
+        heap: Global,
         number: usize,
         sector: &[u8; SECTOR_BYTES],
         lives: &[Volume],
-    ) -> Result<(), Broken>
+    ) -> Result<(), Unloaded>
         requires { 8 * number + 8 ≤ length self.old.entries.items }
         ensures kept { IfOk result (λ u. load_entries (is_living lives.now) (8 * number) (entries_in 8 sector.now) (the_kept self.old) ≡ Some (the_kept self.new)) }
         ensures means { LoadMeans }
@@ -65,7 +81,7 @@ impl Pieces {
     {
         for i in 0..8 {
             let entry = Entry::read(&sector[ENTRY_BYTES * i..ENTRY_BYTES * i + ENTRY_BYTES]);
-            self.load_entry(8 * number + i, entry, lives)?;
+            self.load_entry(heap, 8 * number + i, entry, lives)?;
         }
         Ok(())
     }
@@ -93,20 +109,20 @@ impl Pieces {
 
 // Takes a place that wasn't taken.
 #[tactic(auto, unfolding(crate::specs::Loads::take_all))]
-fn take_one(taken: &mut [bool], place: u64) -> Result<(), Broken>
+fn take_one(taken: &mut [bool], place: u64) -> Result<(), Unloaded>
     ensures { IfOk result (λ u. take_new place taken.old ≡ Some taken.new) }
 {
     if place == 0 {
         return Ok(());
     }
     if place >= taken.len() as u64 || taken[place as usize] {
-        return Err(Broken);
+        return Err(Unloaded::Broken);
     }
     taken[place as usize] = true;
     Ok(())
 }
 
-fn take_places(taken: &mut [bool], places: &[u64]) -> Result<(), Broken>
+fn take_places(taken: &mut [bool], places: &[u64]) -> Result<(), Unloaded>
     ensures { IfOk result (λ u. take_all places.now taken.old ≡ Some taken.new) }
 {
     for place in places {

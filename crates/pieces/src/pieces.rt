@@ -1,24 +1,16 @@
-// The directory in memory: its entries by their index, which places are taken, and the floor.
-ghost use Rattle.std.specs.Prelude.{◌≡◌, ◌<◌, ◌/◌, ◌%◌, length, not, IfOk, position, slice_set, slice_index_or};
-ghost use Rattle.pieces.specs.Entries.{is_block, is_empty, is_free};
+// Where things are, and how an entry of the directory changes.
+ghost use Rattle.std.specs.Prelude.{◌≡◌, ◌<◌, ◌/◌, ◌%◌, length, not, IfOk, OnOk, OnErr, None, position, slice_set, slice_index_or};
+ghost use Rattle.pieces.specs.Entries.{is_block, is_empty, is_free, free_entry};
 ghost use Rattle.pieces.specs.Meaning.{BlankMeans};
 ghost use Rattle.pieces.specs.Kept.{the_kept, blank_kept, index_of, vacant, free_place, place_of, found, stamp_of, puts_place, frees_place, with_place};
 ghost use Rattle.pieces.specs.Layouts.{entries_of, places_of};
 
 use crate::entry::{BLOCK_SECTORS, Block, Entry, Stamp};
 use crate::layout::Layout;
+use crate::state::Pieces;
+use crate::table::Table;
 use std::alloc::{AllocError, Global};
 use wire::number::*;
-
-// taken: of each place, whether a sector lies there; place 0 is none, and counts as taken. floor: no stamp of a marker that was given up is
-// above it.
-#[derive(Drop)]
-pub struct Pieces {
-    pub(crate) layout: Layout,
-    pub(crate) entries: Vec<Entry>,
-    pub(crate) taken: Vec<bool>,
-    pub(crate) floor: Stamp,
-}
 
 impl Pieces {
     // No blocks yet.
@@ -35,14 +27,30 @@ impl Pieces {
             entries,
             taken,
             floor: Stamp(0),
+            table: Table::new(heap),
         })
+    }
+
+    // Which entry a block has. No volume has the number 0; what it would find is what the entries say.
+    pub(crate) fn index_of(&self, volume: Volume, block: Block) -> Option<usize>
+        ensures { result ≡ index_of volume.0 block.0 self.now.entries.items }
+    {
+        if volume.0 == 0 {
+            return position(self.entries.as_slice(), volume, block);
+        }
+        let word = self.table.get(volume, block);
+        if word == 0 {
+            None
+        } else {
+            Some(word as usize - 1)
+        }
     }
 
     // Where a sector lies; None if it is zeros.
     pub fn find(&self, at: Address) -> Option<u64>
         ensures { result ≡ found (place_of at.volume.0 at.sector.0 (the_kept self.now)) }
     {
-        let index = position(self.entries.as_slice(), at.volume, block_of(at.sector))?;
+        let index = self.index_of(at.volume, block_of(at.sector))?;
         let place = self.entries[index].places[slot_of(at.sector)];
         (place != 0).then_some(place)
     }
@@ -51,10 +59,58 @@ impl Pieces {
     pub fn stamp(&self, volume: Volume, block: Block) -> Stamp
         ensures { result.0 ≡ stamp_of volume.0 block.0 (the_kept self.now) }
     {
-        match position(self.entries.as_slice(), volume, block) {
+        match self.index_of(volume, block) {
             Some(index) => self.entries[index].stamp,
             None => Stamp(0),
         }
+    }
+
+    // One place of an entry changes, and its stamp.
+    fn change(&mut self, index: usize, slot: usize, place: u64, stamp: Stamp)
+        requires index { index < length self.old.entries.items }
+        requires slot { slot < 8 }
+        ensures entries { self.new.entries.items ≡ slice_set self.old.entries.items index (with_place slot place stamp.0 (slice_index_or self.old.entries.items index free_entry)) }
+        ensures taken { self.new.taken ≡ self.old.taken }
+        ensures floor { self.new.floor ≡ self.old.floor }
+        ensures layout { self.new.layout ≡ self.old.layout }
+    {
+        change(&mut self.entries[index], slot, place, stamp);
+    }
+
+    // An entry is a block's that had none.
+    pub(crate) fn place_entry(
+        &mut self,
+        heap: Global,
+        index: usize,
+        entry: Entry,
+    ) -> Result<(), AllocError>
+        requires index { index < length self.old.entries.items }
+        requires fresh { index_of entry.volume.0 entry.block.0 self.old.entries.items ≡ None }
+        ensures entries { OnOk result (self.new.entries.items ≡ slice_set self.old.entries.items index entry) }
+        ensures same { OnErr result (self.new.entries.items ≡ self.old.entries.items) }
+        ensures taken { self.new.taken ≡ self.old.taken }
+        ensures floor { self.new.floor ≡ self.old.floor }
+        ensures layout { self.new.layout ≡ self.old.layout }
+    {
+        self.table
+            .put(heap, entry.volume, entry.block, index as u64 + 1)?;
+        let old = self.entries[index];
+        self.table.clear(old.volume, old.block);
+        self.entries[index] = entry;
+        Ok(())
+    }
+
+    // An entry without places is free.
+    pub(crate) fn free_entry(&mut self, index: usize)
+        requires index { index < length self.old.entries.items }
+        ensures entries { self.new.entries.items ≡ slice_set self.old.entries.items index free_entry }
+        ensures taken { self.new.taken ≡ self.old.taken }
+        ensures floor { self.new.floor ≡ self.old.floor }
+        ensures layout { self.new.layout ≡ self.old.layout }
+    {
+        let old = self.entries[index];
+        self.table.clear(old.volume, old.block);
+        self.entries[index] = Entry::free();
     }
 
     #[tactic(auto, unfolding(crate::specs::Kept::puts_place))]
@@ -65,7 +121,7 @@ impl Pieces {
         ensures kept { the_kept self.new ≡ puts_place index slot place stamp.0 (the_kept self.old) }
         ensures layout { self.new.layout ≡ self.old.layout }
     {
-        change(&mut self.entries[index], slot, place, stamp);
+        self.change(index, slot, place, stamp);
         mark(self.taken.as_mut_slice(), place, true);
     }
 
@@ -78,7 +134,7 @@ impl Pieces {
         ensures layout { self.new.layout ≡ self.old.layout }
     {
         let place = self.entries[index].places[slot];
-        change(&mut self.entries[index], slot, 0, stamp);
+        self.change(index, slot, 0, stamp);
         if place != 0 {
             mark(self.taken.as_mut_slice(), place, false);
         }

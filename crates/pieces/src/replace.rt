@@ -7,7 +7,7 @@ ghost use Rattle.pieces.specs.Ranges.{is_within, DropsFirst, DropMeans};
 
 use crate::changed::Key;
 use crate::entry::Entry;
-use crate::pieces::Pieces;
+use crate::state::Pieces;
 
 impl Entry {
     // Whether it is in use, and its block in the range from a key up to another, or to the end.

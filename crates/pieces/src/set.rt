@@ -1,12 +1,15 @@
 // What becomes of the directory when a sector is written.
-ghost use Rattle.std.specs.Prelude.{◌≡◌, ◌<◌, length, Some, true, false};
+ghost use Rattle.std.specs.Prelude.{◌≡◌, ◌<◌, length, Some, None, true, false, OnOk, OnErr};
 ghost use Rattle.disks.specs.Disks.{all_zero};
+ghost use Rattle.pieces.specs.declared.set.Unset.TheVariants.{NoMemory};
 ghost use Rattle.pieces.specs.Meaning.{SetMeans, AlwaysRoom, ZerosNeedNone};
-ghost use Rattle.pieces.specs.Kept.{the_kept, floor_after, claims_entry, WasClaimed, place_for, sets, was_set, DoesSet};
+ghost use Rattle.pieces.specs.Kept.{the_kept, index_of, floor_after, claims_entry, WasClaimed, place_for, sets, was_set, DoesSet};
 
 use crate::entry::{BLOCK_SECTORS, Block, Entry, Stamp};
-use crate::pieces::{Pieces, block_of, place, position, slot_of, vacant};
+use crate::pieces::{block_of, place, slot_of, vacant};
+use crate::state::Pieces;
 use octets::SECTOR_BYTES;
+use std::alloc::{AllocError, Global};
 use volumes::weigh::is_blank;
 use wire::number::*;
 
@@ -18,9 +21,22 @@ pub struct Writes {
     pub floor: bool,
 }
 
-// No place or no entry is left.
+// Why a sector isn't set.
 #[derive(Clone, Copy, Debug, PartialEq, Eq)]
-pub struct NoRoom;
+pub enum Unset {
+    // no place or no entry is left
+    NoRoom,
+    // for a piece in the table
+    NoMemory,
+}
+
+impl From<AllocError> for Unset {
+    ghost from_gives = { λ e n. n ≡ NoMemory };
+
+    fn from(_: AllocError) -> Unset {
+        Unset::NoMemory
+    }
+}
 
 // The floor where this entry is given up: no lower than its stamp, if it is a marker.
 fn floor_above(floor: Stamp, old: &Entry) -> Stamp
@@ -34,60 +50,81 @@ fn floor_above(floor: Stamp, old: &Entry) -> Stamp
 }
 
 impl Pieces {
-    // This entry is a block's from now on.
+    // This entry is a block's from now on, that had none.
     #[tactic(auto, unfolding(crate::specs::Kept::claims_entry))]
-    fn take(&mut self, index: usize, volume: Volume, block: Block, stamp: Stamp)
-        requires { index < length self.old.entries.items }
-        ensures kept { the_kept self.new ≡ claims_entry volume.0 block.0 stamp.0 index (the_kept self.old) }
+    fn take(
+        &mut self,
+        heap: Global,
+        index: usize,
+        volume: Volume,
+        block: Block,
+        stamp: Stamp,
+    ) -> Result<(), AllocError>
+        requires index { index < length self.old.entries.items }
+        requires fresh { index_of volume.0 block.0 self.old.entries.items ≡ None }
+        ensures kept { OnOk result (the_kept self.new ≡ claims_entry volume.0 block.0 stamp.0 index (the_kept self.old)) }
+        ensures same { OnErr result (the_kept self.new ≡ the_kept self.old) }
         ensures layout { self.new.layout ≡ self.old.layout }
     {
-        self.floor = floor_above(self.floor, &self.entries[index]);
-        self.entries[index] = Entry {
+        let floor = floor_above(self.floor, &self.entries[index]);
+        let entry = Entry {
             volume,
             block,
             stamp,
             places: [0; BLOCK_SECTORS],
         };
+        self.place_entry(heap, index, entry)?;
+        self.floor = floor;
+        Ok(())
     }
 
     // The entry of a block, which is made if it has none.
     #[tactic(auto, using(crate::proofs::Places::in_range), unfolding(crate::specs::Kept::claims))]
-    fn claim(&mut self, volume: Volume, block: Block, stamp: Stamp) -> Option<usize>
+    fn claim(
+        &mut self,
+        heap: Global,
+        volume: Volume,
+        block: Block,
+        stamp: Stamp,
+    ) -> Result<Option<usize>, AllocError>
         ensures kept { WasClaimed volume.0 block.0 stamp.0 (the_kept self.old) result (the_kept self.new) }
         ensures layout { self.new.layout ≡ self.old.layout }
     {
-        if let Some(index) = position(self.entries.as_slice(), volume, block) {
-            return Some(index);
+        if let Some(index) = self.index_of(volume, block) {
+            return Ok(Some(index));
         }
-        let index = vacant(self.entries.as_slice())?;
-        self.take(index, volume, block, stamp);
-        Some(index)
+        let Some(index) = vacant(self.entries.as_slice()) else {
+            return Ok(None);
+        };
+        self.take(heap, index, volume, block, stamp)?;
+        Ok(Some(index))
     }
 
     // A sector is zeros from now on: there is always room for that.
     #[tactic(auto, unfolding(crate::specs::Kept::sets))]
-    fn set_blank(&mut self, at: Address, stamp: Stamp) -> Writes
-        ensures kept { sets at.volume.0 at.sector.0 true stamp.0 (the_kept self.old) ≡ Some (was_set result (the_kept self.new)) }
+    fn set_blank(&mut self, heap: Global, at: Address, stamp: Stamp) -> Result<Writes, Unset>
+        ensures kept { DoesSet at.volume.0 at.sector.0 true stamp.0 (the_kept self.old) result (the_kept self.new) }
         ensures layout { self.new.layout ≡ self.old.layout }
     {
         let floor = self.floor;
-        match self.claim(at.volume, block_of(at.sector), stamp) {
-            Some(index) => {
+        match self.claim(heap, at.volume, block_of(at.sector), stamp) {
+            Ok(Some(index)) => {
                 self.free_place(index, slot_of(at.sector), stamp);
-                Writes {
+                Ok(Writes {
                     place: None,
                     entry: Some(index),
                     floor: self.floor != floor,
-                }
+                })
             }
-            None => {
+            Ok(None) => {
                 self.floor = Stamp(floor.0.max(stamp.0));
-                Writes {
+                Ok(Writes {
                     place: None,
                     entry: None,
                     floor: self.floor != floor,
-                }
+                })
             }
+            Err(_) => Err(Unset::NoMemory),
         }
     }
 
@@ -106,31 +143,37 @@ impl Pieces {
 
     // A sector has bytes from now on.
     #[tactic(auto, unfolding(crate::specs::Kept::sets))]
-    fn set_bytes(&mut self, at: Address, stamp: Stamp) -> Result<Writes, NoRoom>
+    fn set_bytes(&mut self, heap: Global, at: Address, stamp: Stamp) -> Result<Writes, Unset>
         ensures kept { DoesSet at.volume.0 at.sector.0 false stamp.0 (the_kept self.old) result (the_kept self.new) }
         ensures layout { self.new.layout ≡ self.old.layout }
     {
         let floor = self.floor;
-        let place = self.place_for(at).ok_or(NoRoom)?;
-        let Some(index) = self.claim(at.volume, block_of(at.sector), stamp) else {
-            return Err(NoRoom);
+        let Some(place) = self.place_for(at) else {
+            return Err(Unset::NoRoom);
         };
-        self.put_place(index, slot_of(at.sector), place, stamp);
-        Ok(Writes {
-            place: Some(place),
-            entry: Some(index),
-            floor: self.floor != floor,
-        })
+        match self.claim(heap, at.volume, block_of(at.sector), stamp) {
+            Ok(Some(index)) => {
+                self.put_place(index, slot_of(at.sector), place, stamp);
+                Ok(Writes {
+                    place: Some(place),
+                    entry: Some(index),
+                    floor: self.floor != floor,
+                })
+            }
+            Ok(None) => Err(Unset::NoRoom),
+            Err(_) => Err(Unset::NoMemory),
+        }
     }
 
     // A sector holds this from now on, by a change of that version: what is to be written for it. Where there is no room nothing changes.
     #[tactic(auto, using(crate::proofs::Always::zeros_need_none))]
     pub fn set(
         &mut self,
+        heap: Global,
         at: Address,
         sector: &[u8; SECTOR_BYTES],
         stamp: Stamp,
-    ) -> Result<Writes, NoRoom>
+    ) -> Result<Writes, Unset>
         ensures kept { DoesSet at.volume.0 at.sector.0 (all_zero sector.now) stamp.0 (the_kept self.old) result (the_kept self.new) }
         ensures layout { self.new.layout ≡ self.old.layout }
         ensures means { SetMeans }
@@ -138,9 +181,9 @@ impl Pieces {
         ensures zeros { ZerosNeedNone }
     {
         if is_blank(sector) {
-            Ok(self.set_blank(at, stamp))
+            self.set_blank(heap, at, stamp)
         } else {
-            self.set_bytes(at, stamp)
+            self.set_bytes(heap, at, stamp)
         }
     }
 }
