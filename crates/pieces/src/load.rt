@@ -3,6 +3,7 @@ ghost use Rattle.std.specs.Prelude.{◌≡◌, ◌+◌, ◌*◌, ◌≤◌, ◌<
 ghost use Rattle.pieces.specs.declared.load.Unloaded.TheVariants.{NoMemory};
 ghost use Rattle.pieces.specs.Meaning.{LoadMeans, LoadsSectors, StaysOnDevice};
 ghost use Rattle.pieces.specs.Kept.{the_kept, index_of, raised};
+ghost use Rattle.pieces.specs.Layouts.{directory_sectors_of};
 ghost use Rattle.pieces.specs.Loads.{sector_bytes, take_new, take_all, restores, load_entry, load_entries, entries_in, is_living};
 
 use crate::entry::{ENTRY_BYTES, Entry, Stamp};
@@ -68,11 +69,11 @@ impl Pieces {
     pub fn load_sector(
         &mut self,
         heap: Global,
-        number: usize,
+        number: u64,
         sector: &[u8; SECTOR_BYTES],
         lives: &[Volume],
     ) -> Result<(), Unloaded>
-        requires { 8 * number + 8 ≤ length self.old.entries.items }
+        requires { number < directory_sectors_of self.old.layout.size }
         ensures kept { IfOk result (λ u. load_entries (is_living lives.now) (8 * number) (entries_in 8 sector.now) (the_kept self.old) ≡ Some (the_kept self.new)) }
         ensures means { LoadMeans }
         ensures sectors { LoadsSectors }
@@ -81,7 +82,7 @@ impl Pieces {
     {
         for i in 0..8 {
             let entry = Entry::read(&sector[ENTRY_BYTES * i..ENTRY_BYTES * i + ENTRY_BYTES]);
-            self.load_entry(heap, 8 * number + i, entry, lives)?;
+            self.load_entry(heap, 8 * number as usize + i, entry, lives)?;
         }
         Ok(())
     }
@@ -95,13 +96,13 @@ impl Pieces {
     }
 
     // How a sector of the directory is to be.
-    pub fn directory_sector(&self, number: usize) -> [u8; SECTOR_BYTES]
-        requires { 8 * number + 8 ≤ length self.now.entries.items }
+    pub fn directory_sector(&self, number: u64) -> [u8; SECTOR_BYTES]
+        requires { number < directory_sectors_of self.now.layout.size }
         ensures { result ≡ sector_bytes number (the_kept self.now) }
     {
         let mut sector = BLANK_SECTOR;
         for i in 0..8 {
-            self.entries[8 * number + i].fill(&mut sector[ENTRY_BYTES * i..ENTRY_BYTES * i + ENTRY_BYTES]);
+            self.entries[8 * number as usize + i].fill(&mut sector[ENTRY_BYTES * i..ENTRY_BYTES * i + ENTRY_BYTES]);
         }
         sector
     }

@@ -1,4 +1,6 @@
 // What a house knows of its directory.
+ghost use Rattle.std.specs.Prelude.{◌≡◌, length};
+ghost use Rattle.pieces.specs.Layouts.{entries_of};
 ghost use Rattle.pieces.specs.Agreements.{Agrees, IsSingle};
 
 use crate::entry::{Entry, Stamp};
@@ -16,4 +18,21 @@ pub struct Pieces {
     pub(crate) table: Table,
     ghost agrees: { Agrees table.pieces.items entries.items },
     ghost single: { IsSingle entries.items },
+    ghost sized: { length entries.items ≡ entries_of layout.size },
+}
+
+impl Pieces {
+    // How its device is divided.
+    pub fn layout(&self) -> Layout
+        ensures { result ≡ self.now.layout }
+    {
+        self.layout
+    }
+
+    // Up to which version blocks of zeros may be missing.
+    pub fn floor(&self) -> Stamp
+        ensures { result ≡ self.now.floor }
+    {
+        self.floor
+    }
 }
