@@ -1,14 +1,14 @@
 -- The table agrees with the directory when an entry is placed, given up or changed.
-use Rattle.std.proofs.Common.{◌≡◌, ◌≢◌, ◌⊎◌, inl, inr, ℕ, zero, suc, ◌+◌, ◌-◌, ◌<◌, ◌≤◌, Bool, true, false, cond, ◌&&◌, ◌==◌, List, [], ◌∷◌, length, get_or, set, replicate, Some, None, Option, refl, sym, ap, ◌∙◌, subst, arith}
+use Rattle.std.proofs.Common.{◌≡◌, ◌≢◌, ℕ, zero, suc, ◌+◌, ◌-◌, ◌<◌, ◌≤◌, Bool, true, false, cond, ◌==◌, List, length, get_or, set, replicate, Some, None, Option, refl, sym, ap, ◌∙◌, subst, arith}
 use Rattle.std.specs.List.{position, count_by}
 use Rattle.std.proofs.lemmas.List.Sums.{sum_by-set}
-use Rattle.std.proofs.lemmas.Bool.{eqb-true, ne_eqb}
+use Rattle.std.proofs.lemmas.Bool.{eqb-true}
 use Rattle.pieces.specs.declared.entry.Entry.{Entry}
 use Rattle.pieces.specs.declared.piece.Piece.{Piece}
 use Rattle.pieces.specs.Entries.{is_block, free_entry}
 use Rattle.pieces.specs.Kept.{index_of, with_place}
 use Rattle.pieces.specs.Meaning.{one}
-use Rattle.pieces.specs.Tables.{slot_in, is_same, SlotPut, SlotsSame}
+use Rattle.pieces.specs.Tables.{slot_in, SlotPut}
 use Rattle.pieces.specs.Agreements.{as_word, Agrees, IsSingle}
 use Rattle.pieces.proofs.Bytes.{both_true}
 use Rattle.pieces.proofs.Counting.{none_of, none_counted, none_from_zero, position-set_same, position-set_new, position-set_gone}
@@ -118,6 +118,7 @@ freed_invariants ps rs es j y d l h a e q f =
 
 pub new_invariants : (ps : List Piece) (es : List Entry) (n : ℕ) (y : Entry) → ((v b : ℕ) → slot_in ps v b ≡ 0) → es ≡ replicate n y → y ≡ free_entry → Agrees ps es × IsSingle es
 new_invariants ps es n y z e f =
-    let same : replicate n free_entry ≡ es = sym (e ∙ ap (λ (x : Entry). replicate n x) f) in
-    (subst (Agrees ps) same (λ v b. z (suc v) b ∙ sym (ap as_word (none_from_zero (is_block (suc v) b) (replicate n free_entry) free_entry (nothing (λ (x : Entry). cond (is_block (suc v) b x) 1 0) n free_entry (ap one (no_block v b)))))),
-    subst IsSingle same (λ v b. omega (arith, nothing (λ (x : Entry). cond (is_block (suc v) b x) 1 0) n free_entry (ap one (no_block v b)))))
+    let same : replicate n free_entry ≡ es = sym (e ∙ ap (λ (x : Entry). replicate n x) f) in (
+      subst (Agrees ps) same (λ v b. z (suc v) b ∙ sym (ap as_word (none_from_zero (is_block (suc v) b) (replicate n free_entry) free_entry (nothing (λ (x : Entry). cond (is_block (suc v) b x) 1 0) n free_entry (ap one (no_block v b)))))),
+      subst IsSingle same (λ v b. omega (arith, nothing (λ (x : Entry). cond (is_block (suc v) b x) 1 0) n free_entry (ap one (no_block v b)))),
+    )

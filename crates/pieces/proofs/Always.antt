@@ -1,13 +1,13 @@
 -- There is always room. As many places are taken as sectors hold anything, and an entry that can't be used has at least one such sector.
-use Rattle.std.proofs.Common.{◌≡◌, ◌≢◌, ◌⊎◌, inl, inr, ℕ, zero, suc, ◌+◌, ◌*◌, ◌/◌, ◌%◌, ◌<◌, ◌≤◌, Bool, true, false, cond, not, ◌&&◌, ◌==◌, List, [], ◌∷◌, length, get_or, Some, None, Option, refl, sym, ap, ◌∙◌, subst, arith}
+use Rattle.std.proofs.Common.{◌≡◌, ◌⊎◌, inl, inr, ℕ, zero, suc, ◌/◌, ◌%◌, ◌<◌, ◌≤◌, Bool, true, false, cond, not, ◌==◌, List, [], ◌∷◌, length, get_or, Some, None, Option, refl, ap, ◌∙◌, arith}
 use Rattle.std.specs.List.{position, sum_by, list_all}
 use Rattle.std.proofs.lemmas.List.Sums.{sum_by-cons}
 use Rattle.std.proofs.lemmas.Bool.{ne_eqb, eqb-false, not-false, and_cases}
 use Rattle.pieces.specs.declared.entry.Entry.{Entry}
 use Rattle.pieces.specs.Entries.{is_free, is_empty, free_entry}
-use Rattle.pieces.specs.Layouts.{places_of, entries_of}
-use Rattle.pieces.specs.Kept.{Kept, Claim, claimed, WasSet, was_set, index_of, vacant, or_else, place_of, found, free_place, place_for, claims_entry, claims_new, claims_of, claims, raised, is_risen, frees_place, puts_place, sets_blank, sets_bytes, sets}
-use Rattle.pieces.specs.Meaning.{full, held_in, held, one, is_taken, Sound}
+use Rattle.pieces.specs.Layouts.{places_of}
+use Rattle.pieces.specs.Kept.{Kept, Claim, claimed, WasSet, was_set, index_of, or_else, place_of, found, free_place, place_for, claims_entry, claims_new, claims_of, claims, is_risen, puts_place, sets_blank, sets_bytes, sets}
+use Rattle.pieces.specs.Meaning.{full, held_in, held, one, Sound}
 use Rattle.pieces.proofs.Counting.{none_of, full_some}
 
 all_taken : (ts : List Bool) → ((i : ℕ) → i < length ts → not (get_or ts i false) ≡ false) → sum_by one ts ≡ length ts

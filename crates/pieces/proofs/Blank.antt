@@ -1,16 +1,14 @@
 -- A new directory is sound, and all is zeros.
-use Rattle.std.proofs.Common.{◌≡◌, ℕ, zero, suc, ◌+◌, ◌*◌, ◌/◌, ◌%◌, ◌≤◌, Bool, true, false, cond, ◌==◌, List, [], ◌∷◌, length, get_or, replicate, Some, None, Option, refl, sym, ap, ◌∙◌, arith}
-use Rattle.std.specs.List.{sum_by, count_by}
+use Rattle.std.proofs.Common.{◌≡◌, ℕ, zero, suc, ◌*◌, ◌/◌, ◌%◌, true, false, cond, length, get_or, replicate, Some, None, Option, refl, sym, ap, ◌∙◌, arith}
+use Rattle.std.specs.List.{sum_by}
 use Rattle.std.proofs.lemmas.List.{length-replicate}
 use Rattle.std.proofs.lemmas.List.Folds.{sum_by-replicate}
 use Rattle.std.proofs.lemmas.List.Sums.{sum_by-cons}
-
-use Rattle.disks.specs.Device.{zeros}
 use Rattle.pieces.specs.declared.entry.Entry.{Entry}
 use Rattle.pieces.specs.Entries.{is_block, free_entry}
 use Rattle.pieces.specs.Layouts.{places_of, entries_of}
-use Rattle.pieces.specs.Kept.{Kept, blank_kept, place_of}
-use Rattle.pieces.specs.Meaning.{uses_in, held_in, one, is_taken, look, look_in, Sound, content, shown, BlankMeans}
+use Rattle.pieces.specs.Kept.{blank_kept}
+use Rattle.pieces.specs.Meaning.{uses_in, held_in, one, look_in, Sound, content, BlankMeans}
 use Rattle.pieces.proofs.Counting.{no_use, no_held}
 use Rattle.pieces.proofs.Looking.{zeros_at, place_looked}
 use Rattle.pieces.proofs.Forgetting.{no_block}

@@ -1,16 +1,16 @@
 -- Entries as bytes: a buffer is written from its front, place behind place, and read the same way.
-use Rattle.std.proofs.Common.{◌≡◌, ℕ, zero, suc, ◌+◌, ◌*◌, ◌/◌, ◌%◌, ◌^◌, ◌<◌, ◌≤◌, Bool, true, false, ◌&&◌, T, IsTrue, ltb, nat_lt, List, [], ◌∷◌, ◌++◌, length, get_or, take, drop, sym, refl, ap, ◌∙◌, append_assoc, append-nil, add-one, arith, ltb→lt, lt→ltb, length-append, length-drop, length-take, slice_set}
+use Rattle.std.proofs.Common.{◌≡◌, ℕ, zero, suc, ◌+◌, ◌*◌, ◌/◌, ◌%◌, ◌^◌, ◌<◌, ◌≤◌, Bool, true, false, ◌&&◌, T, IsTrue, nat_lt, List, [], ◌∷◌, ◌++◌, length, get_or, take, drop, sym, refl, ap, ◌∙◌, append_assoc, append-nil, add-one, arith, lt→ltb, length-append, length-drop, length-take, slice_set}
 use native.Mathlib.Nat.{div-div-eq-div-mul}
 use borrow.Author.Tests.{ltb-true}
 use borrow.Rule.Slice.PartMut.{put_mid}
 use Rattle.std.specs.List.{flat_map, list_all}
 use Rattle.std.proofs.lemmas.List.{take_at, drop_at, drop-drop, take_more, take_more_set, flat_map_more}
 use Rattle.std.proofs.lemmas.Slice.{take-put_mid}
-use Rattle.octets.specs.Numbers.{big, bytes_of, field, fields, numbers_bytes, small}
-use Rattle.octets.proofs.Numbers.{length-bytes_of, big-bytes_of, join, both}
-use Rattle.octets.proofs.Fields.{field_at, length-numbers, big_eight}
+use Rattle.octets.specs.Numbers.{big, bytes_of, fields, numbers_bytes, small}
+use Rattle.octets.proofs.Numbers.{length-bytes_of, big-bytes_of, join}
+use Rattle.octets.proofs.Fields.{field_at, length-numbers}
 use Rattle.pieces.specs.declared.entry.Entry.{Entry}
-use Rattle.pieces.specs.Entries.{five_bytes, places_in, entry_bytes, entry_of, FitsBytes, EntryReadBack}
+use Rattle.pieces.specs.Entries.{five_bytes, places_in, entry_bytes, entry_of, FitsBytes}
 
 -- as the library writes a place's last five bytes
 pub last_five : (n : ℕ) → bytes_of 5 n ≡ (n / 4294967296 % 256) ∷ (n / 16777216 % 256) ∷ (n / 65536 % 256) ∷ (n / 256 % 256) ∷ (n % 256) ∷ []

@@ -1,12 +1,12 @@
 -- A block's entry is found or made. Making one changes no place, and what is lost of a marker's stamp is in the floor.
-use Rattle.std.proofs.Common.{◌≡◌, ◌≢◌, ◌⊎◌, inl, inr, ℕ, zero, suc, ◌+◌, ◌/◌, ◌%◌, ◌<◌, ◌≤◌, max, Bool, true, false, cond, ◌&&◌, ◌==◌, List, [], ◌∷◌, length, get_or, set, Some, None, Option, refl, sym, ap, ◌∙◌, subst, arith, length-set}
-use Rattle.std.specs.List.{position, count_by, sum_by}
+use Rattle.std.proofs.Common.{◌≡◌, ◌≢◌, ℕ, suc, ◌+◌, ◌/◌, ◌%◌, ◌<◌, ◌≤◌, max, Bool, true, false, cond, ◌&&◌, ◌==◌, length, get_or, set, Some, None, Option, refl, sym, ap, ◌∙◌, subst, arith, length-set}
+use Rattle.std.specs.List.{count_by}
 use Rattle.std.proofs.lemmas.List.{get_or-set_other}
 use Rattle.std.proofs.lemmas.List.Sums.{sum_by-set}
 use Rattle.std.proofs.lemmas.Bool.{eqb-true, ne_eqb}
 use Rattle.pieces.specs.declared.entry.Entry.{Entry}
 use Rattle.pieces.specs.Entries.{is_block, is_free, is_empty, free_entry, marker}
-use Rattle.pieces.specs.Kept.{Kept, Claim, claimed, index_of, place_of, stamp_of, entry_at, vacant, floor_after, claims_entry, claims_new, claims_of, claims}
+use Rattle.pieces.specs.Kept.{Kept, Claim, claimed, index_of, place_of, entry_at, vacant, floor_after, claims_entry, claims_new, claims_of, claims}
 use Rattle.pieces.specs.Meaning.{look, age_of, one, Sound}
 use Rattle.pieces.proofs.Bytes.{both_true}
 use Rattle.pieces.proofs.Places.{index_in, vacant_in}

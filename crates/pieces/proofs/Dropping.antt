@@ -1,22 +1,19 @@
 -- A range's blocks are given up one by one.
-use Rattle.std.proofs.Common.{◌≡◌, ◌≢◌, ◌⊎◌, inl, inr, ℕ, zero, suc, ◌+◌, ◌/◌, ◌%◌, ◌<◌, ◌≤◌, Bool, true, false, cond, not, ◌&&◌, ◌==◌, List, [], ◌∷◌, length, get_or, set, Some, None, Option, refl, sym, ap, ◌∙◌, subst, arith}
-use Rattle.std.specs.List.{position, count_by, sum_by}
+use Rattle.std.proofs.Common.{◌≡◌, ◌⊎◌, inl, inr, ℕ, suc, ◌/◌, ◌%◌, ◌<◌, ◌≤◌, Bool, true, false, cond, ◌==◌, List, length, get_or, Some, None, Option, refl, sym, ap, ◌∙◌, arith}
+use Rattle.std.specs.List.{position}
 use Rattle.std.proofs.lemmas.List.Quantifiers.{position-Some}
-use Rattle.std.proofs.lemmas.List.Sums.{sum_by-set}
-use Rattle.std.proofs.lemmas.Bool.{eqb-true, ne_eqb, eq-eqb, cases_eq, and_from, and_left}
+use Rattle.std.proofs.lemmas.Bool.{ne_eqb, cases_eq}
 use Rattle.disks.specs.Device.{zeros}
 use Rattle.pieces.specs.declared.entry.Entry.{Entry}
 use Rattle.pieces.specs.declared.changed.Key.{Key}
 use Rattle.pieces.specs.Entries.{is_block, free_entry}
 use Rattle.pieces.specs.Kept.{Kept, index_of, entry_at, vacated}
-use Rattle.pieces.specs.Meaning.{look, look_in, one, Sound, content, shown, age_of}
+use Rattle.pieces.specs.Meaning.{look, look_in, one, Sound, content, shown}
 use Rattle.pieces.specs.Changes.{key_of, entry_key, is_before, is_below}
 use Rattle.pieces.specs.Ranges.{is_within, DropsOne, DropMeans}
-use Rattle.pieces.proofs.Bytes.{both_true}
 use Rattle.pieces.proofs.Counting.{none_of, none_counted, none_from_zero, only_first}
 use Rattle.pieces.proofs.Steps.{long_vacated}
 use Rattle.pieces.proofs.Looking.{zeros_at, place_looked, stamp_looked, look_in_none}
-use Rattle.pieces.proofs.Putting.{its_own}
 use Rattle.pieces.proofs.Forgetting.{Vacated, vacate, position_alike, sum_one_less, no_block}
 use Rattle.pieces.proofs.ListMeaning.{same_key}
 

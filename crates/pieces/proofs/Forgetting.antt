@@ -1,19 +1,17 @@
 -- What forgetting a volume means: entry by entry, its own are free afterwards and all others as they were.
-use Rattle.std.proofs.Common.{◌≡◌, ◌≢◌, ◌⊎◌, inl, inr, ℕ, zero, suc, ◌+◌, ◌*◌, ◌/◌, ◌%◌, ◌<◌, ◌≤◌, max, Bool, true, false, cond, not, ◌&&◌, ◌==◌, ltb, List, [], ◌∷◌, length, get_or, set, Some, None, Option, refl, sym, ap, ◌∙◌, subst, arith, length-set, lit<}
-use Rattle.std.specs.List.{position, position_or_len, sum_by, count_by, list_all}
+use Rattle.std.proofs.Common.{◌≡◌, ◌≢◌, ◌⊎◌, inl, inr, ℕ, zero, suc, ◌/◌, ◌%◌, ◌<◌, ◌≤◌, Bool, true, false, cond, ◌==◌, List, [], ◌∷◌, length, get_or, set, Some, None, Option, refl, sym, ap, ◌∙◌, subst, arith}
+use Rattle.std.specs.List.{position_or_len, sum_by, count_by, list_all}
 use Rattle.std.proofs.lemmas.List.{get_or-set_same, get_or-set_other, get_or_past}
-use Rattle.std.proofs.lemmas.List.Quantifiers.{position-Some}
 use Rattle.std.proofs.lemmas.List.Sums.{sum_by-set, sum_by-cons}
-use Rattle.std.proofs.lemmas.Bool.{eqb-true, eqb-false, eq-eqb, ne_eqb, cases_eq, cases_lt, lt-ltb, le-ltb, and_left}
-use Rattle.disks.specs.Device.{zeros}
+use Rattle.std.proofs.lemmas.Bool.{eqb-true, eqb-false, eq-eqb, ne_eqb, cases_eq, cases_lt, and_left}
 use Rattle.pieces.specs.declared.entry.Entry.{Entry}
 use Rattle.pieces.specs.Entries.{is_block, is_empty, free_entry}
-use Rattle.pieces.specs.Kept.{Kept, index_of, entry_at, place_at, place_of, stamp_of, with_place, freed, frees_place, cleared, vacated, forgets_at, forgotten}
-use Rattle.pieces.specs.Meaning.{look, look_in, full, held_in, held, one, Sound, content, shown, age_of, Forgets}
+use Rattle.pieces.specs.Kept.{Kept, index_of, entry_at, place_at, with_place, frees_place, cleared, vacated, forgets_at, forgotten}
+use Rattle.pieces.specs.Meaning.{look, look_in, held_in, one, Sound, content, Forgets}
 use Rattle.pieces.proofs.Bytes.{both_true}
 use Rattle.pieces.proofs.Counting.{no_held, none_from_zero, none_counted}
 use Rattle.pieces.proofs.Soundness.{sound-frees, sound-replaced}
-use Rattle.pieces.proofs.Steps.{long_cleared, long_vacated, long_forgotten}
+use Rattle.pieces.proofs.Steps.{long_cleared, long_forgotten}
 use Rattle.pieces.proofs.Looking.{zeros_at, look_in_none, place_looked, stamp_looked}
 use Rattle.pieces.proofs.Putting.{its_own}
 

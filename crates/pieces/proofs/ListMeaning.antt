@@ -1,18 +1,18 @@
 -- What a list of changed blocks says. Each step takes the nearest one; what lies before it is not wanted, and what lies behind it comes later.
-use Rattle.std.proofs.Common.{◌≡◌, ◌≢◌, ◌⊎◌, inl, inr, ℕ, zero, suc, ◌+◌, ◌<◌, ◌≤◌, Bool, true, false, cond, not, ◌&&◌, ◌||◌, ◌==◌, ltb, List, [], ◌∷◌, length, get_or, Some, None, Option, refl, sym, ap, ◌∙◌, subst, arith}
-use Rattle.std.specs.List.{fold, find, position}
+use Rattle.std.proofs.Common.{◌≡◌, inl, inr, ℕ, zero, suc, ◌+◌, ◌<◌, ◌≤◌, Bool, true, false, cond, not, ◌&&◌, ◌==◌, ltb, List, length, get_or, Some, None, Option, refl, sym, ap, ◌∙◌, subst, arith}
+use Rattle.std.specs.List.{find}
 use Rattle.std.proofs.lemmas.List.Quantifiers.{position-Some}
-use Rattle.std.proofs.lemmas.Bool.{eqb-true, eqb-false, eq-eqb, ne_eqb, ltb-true, ltb-false, lt-ltb, and_from, and_parts, cases_order, not-true}
+use Rattle.std.proofs.lemmas.Bool.{eqb-true, eq-eqb, ne_eqb, ltb-false, lt-ltb, and_from, and_parts, not-true}
 use Rattle.pieces.specs.declared.entry.Stamp.{Stamp}
 use Rattle.pieces.specs.declared.entry.Entry.{Entry}
 use Rattle.pieces.specs.declared.changed.Key.{Key}
 use Rattle.pieces.specs.Entries.{is_block, free_entry}
-use Rattle.pieces.specs.Kept.{Kept, index_of, entry_at, stamp_in, stamp_of}
-use Rattle.pieces.specs.Meaning.{look, look_in, Sound}
-use Rattle.pieces.specs.Changes.{key_of, entry_key, is_before, is_newer, is_wanted, nearest, next_number, key_behind, Listed, with_block, listed, listed_on, is_below, Says}
+use Rattle.pieces.specs.Kept.{Kept, index_of, entry_at, stamp_in}
+use Rattle.pieces.specs.Meaning.{look_in, Sound}
+use Rattle.pieces.specs.Changes.{key_of, entry_key, is_before, is_newer, is_wanted, nearest, next_number, key_behind, listed, listed_on, is_below, Says}
 use Rattle.pieces.proofs.Bytes.{both_true}
 use Rattle.pieces.proofs.Counting.{only_first}
-use Rattle.pieces.proofs.Nearest.{Before, NotBefore, before, not_before, is_before_from, not_before_from, found_nearest, nearest_none, nearest_some}
+use Rattle.pieces.proofs.Nearest.{Before, NotBefore, before, not_before, is_before_from, found_nearest, nearest_none, nearest_some}
 
 clash : {A : Type 0} → false ≡ true → A
 clash e = let z : ◌≡◌ {A = ℕ} 0 1 = cc in absurd (omega arith)

@@ -1,9 +1,9 @@
 -- A list of blocks, block by block.
-use Rattle.std.proofs.Common.{◌≡◌, ℕ, zero, suc, ◌+◌, ◌-◌, List, [], ◌∷◌, ◌++◌, Some, None, Option, refl, sym, ap, ◌∙◌, subst, append_assoc, append-nil}
+use Rattle.std.proofs.Common.{◌≡◌, ℕ, suc, List, [], ◌∷◌, ◌++◌, Some, None, Option, refl, sym, ap, ◌∙◌, subst, append_assoc, append-nil}
 use Rattle.pieces.specs.declared.entry.Stamp.{Stamp}
 use Rattle.pieces.specs.declared.entry.Entry.{Entry}
 use Rattle.pieces.specs.declared.changed.Key.{Key}
-use Rattle.pieces.specs.Changes.{Listed, listed, listed_on, with_block, nearest, key_behind}
+use Rattle.pieces.specs.Changes.{Listed, listed, listed_on, nearest, key_behind}
 
 listed_zero : (n : ℕ) (since : Option Stamp) (at : Key) (es : List Entry) → n ≡ 0 → ◌≡◌ {A = Listed} (listed n since at es) (record { blocks = []; next = Some at })
 unfolding listed

@@ -1,16 +1,15 @@
 -- Loading a directory. Entry by entry, what is loaded is a part of what was kept; so no place and no block comes twice.
-use Rattle.std.proofs.Common.{◌≡◌, ◌≢◌, ◌⊎◌, inl, inr, ℕ, zero, suc, ◌+◌, ◌*◌, ◌/◌, ◌%◌, ◌-◌, ◌<◌, ◌≤◌, max, Bool, true, false, cond, not, ◌&&◌, ◌==◌, ltb, List, [], ◌∷◌, length, get_or, set, drop, Some, None, Option, refl, sym, ap, ◌∙◌, subst, arith, add-zero, length-set, length-drop}
-use Rattle.std.specs.List.{position, sum_by, count_by}
+use Rattle.std.proofs.Common.{◌≡◌, ◌≢◌, ◌⊎◌, inl, inr, ℕ, zero, suc, ◌+◌, ◌/◌, ◌%◌, ◌<◌, ◌≤◌, Bool, true, false, cond, ◌==◌, List, [], ◌∷◌, length, get_or, set, drop, Some, None, Option, refl, sym, ap, ◌∙◌, subst, arith, add-zero, length-set, length-drop}
+use Rattle.std.specs.List.{sum_by, count_by}
 use Rattle.std.proofs.lemmas.List.{get_or-set_same, get_or-set_other, get_or_past, get_or-drop, drop-drop}
 use Rattle.std.proofs.lemmas.List.Sums.{sum_by-set, sum_by-cons, get_or-le-sum_by}
 use Rattle.std.proofs.lemmas.Bool.{eqb-true, eq-eqb, ne_eqb, cases_eq, cases_lt, lt-ltb, and_left}
-use Rattle.disks.specs.Device.{zeros}
 use Rattle.pieces.specs.declared.entry.Entry.{Entry}
 use Rattle.pieces.specs.Entries.{is_block, free_entry}
-use Rattle.pieces.specs.Layouts.{places_of, entries_of}
-use Rattle.pieces.specs.Kept.{Kept, blank_kept, index_of, entry_at, place_of, stamp_of, raised}
-use Rattle.pieces.specs.Loads.{is_left, take_new, taking, take_all, restored, restores_of, restores, load_entry, then_load, load_entries}
-use Rattle.pieces.specs.Meaning.{use_of, uses_in, uses, full, held_in, held, one, is_taken, look, look_in, Sound, content, shown, living, OnDevice, Loaded}
+use Rattle.pieces.specs.Layouts.{entries_of}
+use Rattle.pieces.specs.Kept.{Kept, blank_kept, index_of, entry_at, raised}
+use Rattle.pieces.specs.Loads.{take_new, taking, take_all, restored, restores_of, restores, load_entry, then_load, load_entries}
+use Rattle.pieces.specs.Meaning.{use_of, uses_in, uses, full, held_in, one, is_taken, look, look_in, Sound, content, living, OnDevice, Loaded}
 use Rattle.pieces.proofs.Bytes.{both_true}
 use Rattle.pieces.proofs.Counting.{use_same, use_other, full_none, full_some, one-le, no_use, no_held, none_from_zero, none_counted}
 use Rattle.pieces.proofs.Soundness.{used_taken, taken_in}
@@ -90,13 +89,16 @@ takes : (ps : List ℕ) (ts : List Bool) → CanTake ps ts → (us : List Bool) 
 unfolding take_all
 takes [] ts c = (ts, refl, record { long = refl; none = c.none; apart = λ p. sym (add-zero (one (is_taken (suc p) ts))); total = sym (add-zero (sum_by one ts)) })
 takes (zero ∷ ps) ts c =
-    let r = takes ps ts (record { few = λ p. omega (arith, c.few p, sum_by-cons (use_of (suc p)) 0 ps); inside = λ s l. c.inside (suc s) (omega arith); none = c.none }) in
-    (r.0, r.1, record {
-      long = r.2.long;
-      none = r.2.none;
-      apart = λ p. omega (arith, r.2.apart p, sum_by-cons (use_of (suc p)) 0 ps, use_other (suc p) 0 (λ (z : ◌≡◌ {A = ℕ} 0 (suc p)). absurd (omega arith)));
-      total = omega (arith, r.2.total, sum_by-cons full 0 ps, full_none 0 refl);
-    })
+    let r = takes ps ts (record { few = λ p. omega (arith, c.few p, sum_by-cons (use_of (suc p)) 0 ps); inside = λ s l. c.inside (suc s) (omega arith); none = c.none }) in (
+      r.0,
+      r.1,
+      record {
+        long = r.2.long;
+        none = r.2.none;
+        apart = λ p. omega (arith, r.2.apart p, sum_by-cons (use_of (suc p)) 0 ps, use_other (suc p) 0 (λ (z : ◌≡◌ {A = ℕ} 0 (suc p)). absurd (omega arith)));
+        total = omega (arith, r.2.total, sum_by-cons full 0 ps, full_none 0 refl);
+      },
+    )
 takes (suc q ∷ ps) ts c =
     let n = taken_new q ps ts c in
     let r = takes ps (set ts (suc q) true) (can_rest q ps ts c) in
@@ -229,12 +231,16 @@ load_one size f i lives k m z x p inside nobody same = go (living_cases lives z)
         let c = comes_loaded size f i lives k m x p inside nobody b.0 in
         (c.0, ap (λ (t : Bool). cond t (restores i z m) (Some m)) a.0 ∙ ap (λ (w : Entry). restores i w m) mine ∙ c.1, c.2)
     go (inl a) (inr b) = clash (sym nobody ∙ ap (λ (w : Entry). lives w.volume.0) (sym (sym a.1 ∙ same ∙ b.1)) ∙ a.0)
-    go (inr a) b = (m, ap (λ (t : Bool). cond t (restores i z m) (Some m)) a.0, record {
-      sound = p.sound;
-      done = λ j l. by_place j l (cases_eq j i);
-      later = λ j l. p.later j (omega arith);
-      floor = p.floor;
-    })
+    go (inr a) b = (
+      m,
+      ap (λ (t : Bool). cond t (restores i z m) (Some m)) a.0,
+      record {
+        sound = p.sound;
+        done = λ j l. by_place j l (cases_eq j i);
+        later = λ j l. p.later j (omega arith);
+        floor = p.floor;
+      },
+    )
       where
         by_place : (j : ℕ) → j < suc i → (j ≡ i) ⊎ (j ≡ i → ⊥) → entry_at j m ≡ living lives (entry_at j k)
         by_place j l (inl q) = p.later j (omega arith) ∙ sym a.1 ∙ same ∙ ap (λ (n : ℕ). living lives (entry_at n k)) (sym q)
@@ -244,10 +250,11 @@ load_one size f i lives k m z x p inside nobody same = go (living_cases lives z)
 -- the first of what is left
 first_left : (x : Entry) (xs es : List Entry) (i : ℕ) → x ∷ xs ≡ drop i es → (x ≡ get_or es i free_entry) × (xs ≡ drop (suc i) es) × (i < length es)
 first_left x xs es i q =
-    let far : i + 1 ≡ suc i = omega arith in
-    (ap (λ (ys : List Entry). get_or ys 0 free_entry) q ∙ get_or-drop i es 0 free_entry ∙ ap (λ (n : ℕ). get_or es n free_entry) (add-zero i),
-    ap (drop 1) q ∙ drop-drop 1 i es ∙ ap (λ (n : ℕ). drop n es) far,
-    omega (arith, ap length q, length-drop i es))
+    let far : i + 1 ≡ suc i = omega arith in (
+      ap (λ (ys : List Entry). get_or ys 0 free_entry) q ∙ get_or-drop i es 0 free_entry ∙ ap (λ (n : ℕ). get_or es n free_entry) (add-zero i),
+      ap (drop 1) q ∙ drop-drop 1 i es ∙ ap (λ (n : ℕ). drop n es) far,
+      omega (arith, ap length q, length-drop i es),
+    )
 
 none_left : (es : List Entry) (i : ℕ) → [] ≡ drop i es → length es ≤ i
 none_left es i q = omega (arith, ap length q, length-drop i es)

@@ -1,12 +1,12 @@
 -- Which entry a block has, where one entry of the list changes.
-use Rattle.std.proofs.Common.{◌≡◌, ◌≢◌, ◌⊎◌, inl, inr, ℕ, zero, suc, ◌+◌, ◌/◌, ◌%◌, ◌<◌, ◌≤◌, Bool, true, false, cond, ◌&&◌, ◌==◌, eqb, List, [], ◌∷◌, length, get_or, set, Some, None, Option, refl, sym, ap, ◌∙◌, subst, arith, length-set}
+use Rattle.std.proofs.Common.{◌≡◌, ℕ, zero, suc, ◌/◌, ◌%◌, ◌<◌, ◌≤◌, true, false, ◌==◌, List, [], ◌∷◌, length, get_or, set, Some, None, Option, refl, sym, ap, ◌∙◌, subst, arith}
 use Rattle.std.specs.List.{position, count_by, list_all}
 use Rattle.std.proofs.lemmas.List.{get_or-set_same, get_or-set_other}
 use Rattle.std.proofs.lemmas.List.Quantifiers.{position-Some}
 use Rattle.std.proofs.lemmas.Bool.{eqb-true, eq-eqb}
 use Rattle.pieces.specs.declared.entry.Entry.{Entry}
 use Rattle.pieces.specs.Entries.{is_block, is_free, is_empty, free_entry, marker}
-use Rattle.pieces.specs.Kept.{Kept, index_of, place_in, place_of, stamp_in, stamp_of, or_else, vacant, entry_at}
+use Rattle.pieces.specs.Kept.{Kept, index_of, place_in, place_of, stamp_in, stamp_of, or_else, vacant}
 use Rattle.pieces.specs.Meaning.{look_in, look}
 use Rattle.pieces.proofs.Bytes.{both_true}
 use Rattle.pieces.proofs.Counting.{only_first, position-set_same, position-set_new, position-set_gone}

@@ -1,17 +1,16 @@
 -- A sector of a block that has an entry gets another place: what becomes of all places and stamps; and that no two sectors have one place.
-use Rattle.std.proofs.Common.{◌≡◌, ◌≢◌, ◌⊎◌, inl, inr, ℕ, zero, suc, ◌+◌, ◌*◌, ◌/◌, ◌%◌, ◌<◌, ◌≤◌, max, Bool, true, false, cond, ◌&&◌, ◌==◌, List, [], ◌∷◌, length, get_or, set, Some, None, Option, refl, sym, ap, ◌∙◌, subst, arith, length-set}
-use Rattle.std.specs.List.{position, count_by, sum_by}
-use Rattle.std.proofs.lemmas.List.{get_or-set_same, get_or-set_other, get_or_past}
+use Rattle.std.proofs.Common.{◌≡◌, ◌⊎◌, inl, inr, ℕ, suc, ◌/◌, ◌%◌, ◌<◌, ◌≤◌, Bool, true, false, ◌==◌, List, length, get_or, set, Some, None, Option, refl, ap, ◌∙◌, subst, arith}
+use Rattle.std.proofs.lemmas.List.{get_or_past}
 use Rattle.std.proofs.lemmas.List.Quantifiers.{position-Some}
 use Rattle.std.proofs.lemmas.List.Sums.{get_or-le-sum_by}
-use Rattle.std.proofs.lemmas.Bool.{eqb-true, eq-eqb, cases_eq, cases_order, cases_lt}
+use Rattle.std.proofs.lemmas.Bool.{eqb-true, cases_order, cases_lt}
 use Rattle.pieces.specs.declared.entry.Entry.{Entry}
 use Rattle.pieces.specs.Entries.{is_block, free_entry}
-use Rattle.pieces.specs.Kept.{Kept, index_of, place_in, place_of, stamp_of, entry_at, place_at, with_place}
-use Rattle.pieces.specs.Meaning.{look, look_in, use_of, uses_in, uses, one, is_taken, Sound}
+use Rattle.pieces.specs.Kept.{Kept, index_of, place_in, place_of, entry_at, place_at, with_place}
+use Rattle.pieces.specs.Meaning.{look, use_of, uses_in, uses, is_taken, Sound}
 use Rattle.pieces.proofs.Bytes.{both_true}
 use Rattle.pieces.proofs.Counting.{two_in, use_same, one-le}
-use Rattle.pieces.proofs.Looking.{look_same, look_here, place_looked, zeros_at}
+use Rattle.pieces.proofs.Looking.{look_same, look_here}
 
 -- the entry at the place that is found is the block's
 pub its_own : (v b i : ℕ) (es : List Entry) → index_of v b es ≡ Some i → is_block v b (get_or es i free_entry) ≡ true

@@ -1,17 +1,14 @@
 -- What setting a sector means. The block's entry is found or made, which changes no sector; then one slot of it changes; and the place that
 -- is written is no other sector's.
-use Rattle.std.proofs.Common.{◌≡◌, ◌≢◌, ◌⊎◌, inl, inr, ℕ, zero, suc, ◌+◌, ◌*◌, ◌/◌, ◌%◌, ◌<◌, ◌≤◌, max, Bool, true, false, cond, not, ◌&&◌, ◌==◌, List, [], ◌∷◌, length, get_or, set, Some, None, Option, refl, sym, ap, ◌∙◌, subst, arith, length-set}
-use Rattle.std.specs.List.{position}
+use Rattle.std.proofs.Common.{◌≡◌, ◌≢◌, ◌⊎◌, inl, inr, ℕ, zero, suc, ◌/◌, ◌%◌, ◌<◌, ◌≤◌, max, Bool, true, false, cond, not, ◌==◌, List, length, get_or, set, Some, None, Option, refl, sym, ap, ◌∙◌, subst, arith}
 use Rattle.std.proofs.lemmas.List.{get_or-set_same, get_or-set_other}
 use Rattle.std.proofs.lemmas.List.Quantifiers.{position-Some}
 use Rattle.std.proofs.lemmas.Bool.{eqb-true, eq-eqb, ne_eqb, cases_eq, not-true, not-false}
-use Rattle.disks.specs.Device.{zeros}
 use Rattle.pieces.specs.declared.entry.Entry.{Entry}
-use Rattle.pieces.specs.Entries.{is_block, free_entry}
-use Rattle.pieces.specs.Kept.{Kept, Claim, WasSet, was_set, index_of, place_in, place_of, stamp_of, entry_at, place_at, with_place, found, free_place, place_for, or_else, frees_place, puts_place, claims, claims_of, raised, is_risen, sets_blank, sets_bytes, sets}
-use Rattle.pieces.specs.Meaning.{look, uses, is_taken, Sound, age_of, content, shown, stored_at, SetsOne}
+use Rattle.pieces.specs.Entries.{free_entry}
+use Rattle.pieces.specs.Kept.{Kept, Claim, WasSet, was_set, index_of, place_in, place_of, entry_at, place_at, with_place, found, free_place, place_for, or_else, frees_place, puts_place, claims, claims_of, raised, is_risen, sets_blank, sets_bytes, sets}
+use Rattle.pieces.specs.Meaning.{look, uses, is_taken, Sound, age_of, content, stored_at, SetsOne}
 use Rattle.pieces.proofs.Soundness.{MayPut, sound-frees, sound-puts, used_taken, taken_in, used_here}
-use Rattle.pieces.proofs.Steps.{long_frees, long_puts}
 use Rattle.pieces.proofs.Looking.{place_looked, stamp_looked}
 use Rattle.pieces.proofs.Claiming.{Claims, claims_means}
 use Rattle.pieces.proofs.Putting.{put_here, put_other, one_sector}

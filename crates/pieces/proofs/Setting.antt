@@ -1,6 +1,6 @@
 -- What claiming and setting come to, put together from their steps.
-use Rattle.std.proofs.Common.{◌≡◌, ℕ, ◌/◌, ◌%◌, ◌<◌, Bool, true, false, List, length, Some, None, Option, refl, sym, ap, ◌∙◌, subst, length-set}
-use Rattle.pieces.specs.Kept.{Kept, index_of, vacant, claims_entry, claims, claimed, place_for, frees_place, puts_place, is_risen, raised, sets, was_set, WasSet}
+use Rattle.std.proofs.Common.{◌≡◌, ℕ, ◌/◌, ◌%◌, ◌<◌, Bool, true, false, length, Some, None, refl, sym, ap, ◌∙◌, subst, length-set}
+use Rattle.pieces.specs.Kept.{Kept, index_of, vacant, claims_entry, claims, claimed, place_for, frees_place, puts_place, is_risen, sets, was_set}
 use Rattle.pieces.proofs.Places.{vacant_in}
 
 pub claims_new_one : (v b w j : ℕ) (k m : Kept) → index_of v b k.entries ≡ None → vacant k.entries ≡ Some j → m ≡ claims_entry v b w j k → (claims v b w k ≡ Some (claimed j m)) × (j < length m.entries)

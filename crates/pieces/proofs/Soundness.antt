@@ -1,12 +1,11 @@
 -- Each change keeps a directory sound. Counts are compared before and after: an entry that changes takes its uses out and puts others in.
-use Rattle.std.proofs.Common.{◌≡◌, ◌≢◌, ◌⊎◌, inl, inr, ℕ, zero, suc, ◌+◌, ◌<◌, ◌≤◌, Bool, true, false, cond, ◌&&◌, ◌==◌, eqb, List, [], ◌∷◌, length, get_or, set, Some, None, Option, refl, sym, ap, ◌∙◌, subst, arith, length-set}
-use Rattle.std.specs.List.{position, sum_by, count_by}
+use Rattle.std.proofs.Common.{◌≡◌, ◌≢◌, ◌⊎◌, inl, inr, ℕ, zero, suc, ◌+◌, ◌<◌, ◌≤◌, Bool, true, false, cond, List, length, get_or, set, refl, sym, ap, ◌∙◌, subst, arith, length-set}
+use Rattle.std.specs.List.{sum_by, count_by}
 use Rattle.std.proofs.lemmas.List.{get_or-set_same, get_or-set_other, get_or_past}
 use Rattle.std.proofs.lemmas.List.Sums.{sum_by-set, get_or-le-sum_by}
 use Rattle.std.proofs.lemmas.Bool.{cases_eq, cases_lt, eq-eqb, ne_eqb}
 use Rattle.pieces.specs.declared.entry.Entry.{Entry}
-use Rattle.pieces.specs.Entries.{is_block, is_empty, free_entry, marker}
-use Rattle.pieces.specs.Layouts.{places_of, entries_of}
+use Rattle.pieces.specs.Entries.{is_block, is_empty, free_entry}
 use Rattle.pieces.specs.Kept.{Kept, entry_at, place_at, with_place, freed, puts_place, frees_place}
 use Rattle.pieces.specs.Meaning.{use_of, uses_in, uses, full, held_in, held, one, is_taken, Sound}
 use Rattle.pieces.proofs.Counting.{use_same, use_other, full_none, full_some, one-le, one_true, get_or-set_default, no_use, no_held}

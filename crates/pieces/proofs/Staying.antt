@@ -1,10 +1,10 @@
 -- What is on the device stays what is kept.
-use Rattle.std.proofs.Common.{◌≡◌, ◌≢◌, ◌⊎◌, inl, inr, ℕ, zero, suc, ◌≤◌, Bool, true, false, cond, List, [], ◌∷◌, length, get_or, Some, None, Option, refl, sym, ap, ◌∙◌, arith}
+use Rattle.std.proofs.Common.{◌≡◌, ◌⊎◌, inl, inr, ℕ, suc, Bool, true, false, cond, List, length, get_or, Some, refl, sym, ap, ◌∙◌, arith}
 use Rattle.std.proofs.lemmas.Bool.{cases_eq}
 use Rattle.pieces.specs.declared.entry.Entry.{Entry}
 use Rattle.pieces.specs.Entries.{free_entry}
 use Rattle.pieces.specs.Kept.{Kept, WasSet, entry_at, forgotten}
-use Rattle.pieces.specs.Meaning.{Sound, SetsOne, living, OnDevice, StaysOnDevice, LoadsSectors}
+use Rattle.pieces.specs.Meaning.{Sound, SetsOne, living, OnDevice, StaysOnDevice}
 use Rattle.pieces.proofs.Forgetting.{entry_forgotten, entry_stays}
 use Rattle.pieces.proofs.Steps.{long_forgotten}
 

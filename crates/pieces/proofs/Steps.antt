@@ -1,7 +1,7 @@
 -- Changes step by step, and that none of them changes how many entries there are.
-use Rattle.std.proofs.Common.{◌≡◌, ℕ, zero, suc, ◌+◌, ◌==◌, Bool, true, false, cond, length, refl, sym, ap, ◌∙◌, subst, add-one, length-set}
+use Rattle.std.proofs.Common.{◌≡◌, ℕ, zero, suc, ◌+◌, ◌==◌, Bool, true, false, cond, length, refl, ◌∙◌, add-one, length-set}
 use Rattle.pieces.specs.Entries.{free_entry}
-use Rattle.pieces.specs.Kept.{Kept, entry_at, frees_place, puts_place, claims_entry, cleared, vacated, forgets_at, forgotten}
+use Rattle.pieces.specs.Kept.{Kept, entry_at, frees_place, puts_place, cleared, vacated, forgets_at, forgotten}
 
 pub long_frees : (i s v : ℕ) (k : Kept) → length (frees_place i s v k).entries ≡ length k.entries
 unfolding frees_place

@@ -1,6 +1,6 @@
 -- What is kept in memory of the directory, and what becomes of it.
 -- Assumes nothing.
-use Rattle.std.specs.Prelude.{◌≡◌, ℕ, zero, suc, ◌+◌, ◌*◌, ◌/◌, ◌%◌, max, Bool, true, false, cond, not, List, [], ◌∷◌, replicate, ◌==◌, nat_lt, Some, None, Option, Ok, Err, Result, ◌<◌, length, vec_items, slice_index_or, slice_set}
+use Rattle.std.specs.Prelude.{◌≡◌, ℕ, zero, suc, ◌/◌, ◌%◌, max, Bool, true, false, cond, not, List, ◌∷◌, replicate, ◌==◌, Some, None, Option, Ok, Err, Result, ◌<◌, length, vec_items, slice_index_or, slice_set}
 use Rattle.std.specs.List.{position}
 use Rattle.pieces.specs.declared.entry.Entry.{Entry}
 use Rattle.pieces.specs.declared.state.Pieces.{Pieces}

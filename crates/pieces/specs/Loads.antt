@@ -1,6 +1,6 @@
 -- The directory on the device, and how it is loaded.
 -- Assumes nothing.
-use Rattle.std.specs.Prelude.{◌≡◌, ℕ, zero, suc, ◌+◌, ◌*◌, Bool, true, false, cond, not, ◌&&◌, List, [], ◌∷◌, ◌++◌, length, take, drop, ◌==◌, nat_lt, Some, None, Option, slice_set, slice_index_or}
+use Rattle.std.specs.Prelude.{ℕ, zero, suc, ◌+◌, ◌*◌, Bool, true, false, cond, not, ◌&&◌, List, [], ◌∷◌, length, take, drop, ◌==◌, nat_lt, Some, None, Option, slice_set, slice_index_or}
 use Rattle.std.specs.List.{flat_map, list_any}
 use Rattle.wire.specs.declared.number.Volume.{Volume}
 use Rattle.pieces.specs.declared.entry.Entry.{Entry}

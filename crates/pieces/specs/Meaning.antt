@@ -1,10 +1,9 @@
 -- What the directory means, and when it is sound.
 -- Assumes nothing.
-use Rattle.std.specs.Prelude.{◌≡◌, ◌≢◌, ◌⊎◌, ℕ, zero, suc, ◌+◌, ◌*◌, ◌/◌, ◌%◌, ◌<◌, ◌≤◌, max, Bool, true, false, cond, not, List, [], ◌∷◌, ◌++◌, take, drop, length, ◌==◌, Some, None, Option, slice_index_or}
+use Rattle.std.specs.Prelude.{◌≡◌, ◌≢◌, ◌⊎◌, ℕ, zero, suc, ◌+◌, ◌*◌, ◌/◌, ◌<◌, ◌≤◌, max, Bool, true, false, cond, List, ◌++◌, take, drop, length, ◌==◌, Some, None, Option, slice_index_or}
 use Rattle.std.specs.List.{sum_by, count_by}
 use Rattle.disks.specs.Device.{zeros}
 use Rattle.pieces.specs.declared.entry.Entry.{Entry}
-use Rattle.pieces.specs.declared.set.Writes.{Writes}
 use Rattle.pieces.specs.Entries.{is_block, free_entry, FitsBytes}
 use Rattle.pieces.specs.Layouts.{places_of, entries_of}
 use Rattle.pieces.specs.Kept.{Kept, blank_kept, index_of, entry_at, place_of, stamp_of, WasSet, sets, forgotten, raised}

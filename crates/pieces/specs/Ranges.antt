@@ -1,6 +1,6 @@
 -- A range of blocks is given up, one after the other.
 -- Assumes nothing.
-use Rattle.std.specs.Prelude.{◌≡◌, ◌≢◌, ℕ, suc, ◌/◌, ◌<◌, Bool, true, false, not, ◌&&◌, List, length, ◌==◌, Some, None, Option}
+use Rattle.std.specs.Prelude.{◌≡◌, ℕ, suc, ◌/◌, ◌<◌, Bool, true, false, not, ◌&&◌, List, ◌==◌, Some, None, Option}
 use Rattle.std.specs.List.{position, count_by}
 use Rattle.disks.specs.Device.{zeros}
 use Rattle.pieces.specs.declared.entry.Entry.{Entry}

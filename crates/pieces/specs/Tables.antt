@@ -1,6 +1,6 @@
 -- The table of pieces as a map from blocks to words.
 -- Assumes nothing.
-use Rattle.std.specs.Prelude.{◌≡◌, ◌≢◌, ℕ, ◌+◌, ◌/◌, ◌%◌, Bool, cond, ◌&&◌, List, [], ◌∷◌, ◌==◌, vec_items, slice_index_or}
+use Rattle.std.specs.Prelude.{◌≡◌, ℕ, ◌/◌, ◌%◌, Bool, cond, ◌&&◌, List, [], ◌∷◌, ◌==◌, vec_items, slice_index_or}
 use Rattle.pieces.specs.declared.piece.Piece.{Piece}
 
 abbrev pub is_piece : (volume number : ℕ) → Piece → Bool

@@ -33,9 +33,10 @@ pub struct Layout {
 }
 
 impl Layout {
-    // None if a device can't have this size.
+    // None if a device can't have this size. Directory and data fit every device that it can be, with as many entries as places.
     pub fn of(size: u64) -> Option<Layout>
-        ensures { MatchOption result (IsTrue (not (is_size size))) (λ l. IsTrue (is_size size) × (l.size ≡ size)) }
+        ensures fits { FitsDevices }
+        ensures size { MatchOption result (IsTrue (not (is_size size))) (λ l. IsTrue (is_size size) × (l.size ≡ size)) }
     {
         if (LEAST_SIZE..=MOST_SIZE).contains(&size) {
             Some(Layout { size })
@@ -81,10 +82,4 @@ impl Layout {
     {
         Place(FIXED_SECTORS + self.directory_sectors() + (place - 1))
     }
-}
-
-// Directory and data fit every device, and there are as many entries as places.
-pub fn fits()
-    ensures { FitsDevices }
-{
 }

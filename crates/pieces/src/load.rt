@@ -8,8 +8,8 @@ ghost use Rattle.pieces.specs.Loads.{sector_bytes, take_new, take_all, restores,
 
 use crate::entry::{ENTRY_BYTES, Entry, Stamp};
 use crate::state::Pieces;
-use std::alloc::{AllocError, Global};
 use octets::{BLANK_SECTOR, SECTOR_BYTES};
+use std::alloc::{AllocError, Global};
 use wire::number::*;
 
 // Why a directory isn't loaded.
@@ -102,7 +102,9 @@ impl Pieces {
     {
         let mut sector = BLANK_SECTOR;
         for i in 0..8 {
-            self.entries[8 * number as usize + i].fill(&mut sector[ENTRY_BYTES * i..ENTRY_BYTES * i + ENTRY_BYTES]);
+            self.entries[8 * number as usize + i].fill(
+                &mut sector[ENTRY_BYTES * i..ENTRY_BYTES * i + ENTRY_BYTES],
+            );
         }
         sector
     }

@@ -1,4 +1,4 @@
-use Rattle.std.proofs.Common.{◌*◌, ◌+◌, ◌-◌, ◌≡◌, ℕ, List, take, drop, arith, rules, sym, ap, ◌∙◌, refl, length}
+use Rattle.std.proofs.Common.{◌*◌, ◌+◌, ◌-◌, ◌≡◌, ℕ, take, drop, arith, sym, ap, ◌∙◌}
 use Rattle.std.proofs.lemmas.List.{take_all, length-set}
 use Rattle.octets.specs.Numbers.{big}
 use Rattle.pieces.specs.Entries.{places_in}

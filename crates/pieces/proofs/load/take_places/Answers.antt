@@ -1,4 +1,4 @@
-use Rattle.std.proofs.Common.{sym, rules}
+use Rattle.std.proofs.Common.{rules}
 use Rattle.pieces.proofs.Taking.{take_more, take_end}
 use Rattle.pieces.proofs.load.take_places.Goals as goal
 

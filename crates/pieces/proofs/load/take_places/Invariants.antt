@@ -1,4 +1,4 @@
-use Rattle.std.proofs.Common.{◌≡◌, take, drop}
+use Rattle.std.proofs.Common.{◌≡◌, drop}
 use Rattle.pieces.specs.Loads.{take_all}
 use Rattle.pieces.proofs.load.take_places.Given as goal
 

@@ -1,5 +1,4 @@
-use Rattle.std.proofs.Common.{◌≡◌, ◌∷◌, [], ◌++◌, ◌+◌, ◌-◌, Some, None, sym, ◌∙◌, arith, rules, vec_items}
-use Rattle.pieces.specs.Changes.{nearest}
+use Rattle.std.proofs.Common.{◌+◌, ◌-◌, sym, ◌∙◌, arith, vec_items}
 use Rattle.pieces.proofs.ListMeaning.{list_means}
 use Rattle.pieces.proofs.Listing.{along_more, along_end, along_all}
 use Rattle.pieces.proofs.state.Pieces.changed.Goals as goal

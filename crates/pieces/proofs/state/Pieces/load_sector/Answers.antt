@@ -1,4 +1,4 @@
-use Rattle.std.proofs.Common.{◌≡◌, ℕ, ◌+◌, ◌*◌, ◌-◌, take, drop, refl, sym, ap, ◌∙◌, add-zero, arith, rules, vec_items}
+use Rattle.std.proofs.Common.{◌≡◌, ℕ, ◌+◌, ◌*◌, ◌-◌, take, drop, refl, sym, ap, ◌∙◌, add-zero, arith}
 use Rattle.pieces.specs.Entries.{entry_of}
 use Rattle.pieces.specs.Kept.{the_kept}
 use Rattle.pieces.specs.Loads.{load_entries, entries_in, is_living}
@@ -16,7 +16,7 @@ loop-i-preserved c =
     let done = c.in_ok-load_entry.ensures {u = tt} in
     record {
       kept = load_more (is_living c.args.lives.now) (8 * c.args.number) i (entries_in 8 c.args.sector.now) c.read-entry.result _ _ _ (omega (arith, long_entries 8 c.args.sector.now))
-      (c.read-entry.ensures.value ∙ ap (λ (n : ℕ). entry_of (take n (drop (64 * i) c.args.sector.now))) part ∙ sym (entry_in 8 i c.args.sector.now (omega arith))) done.kept v.kept;
+          (c.read-entry.ensures.value ∙ ap (λ (n : ℕ). entry_of (take n (drop (64 * i) c.args.sector.now))) part ∙ sym (entry_in 8 i c.args.sector.now (omega arith))) done.kept v.kept;
       long = long_load (is_living c.args.lives.now) (8 * c.args.number + i) c.read-entry.result _ _ done.kept ∙ v.long;
       layout = c.load_entry.ensures.layout ∙ v.layout;
     }

@@ -1,4 +1,4 @@
-use Rattle.std.proofs.Common.{◌≡◌, ◌≢◌, ℕ, ◌/◌, rules, sym, ◌∙◌, ap, subst, List, None, Option}
+use Rattle.std.proofs.Common.{◌/◌, rules, sym, ◌∙◌, ap, List}
 use Rattle.std.specs.List.{position}
 use Rattle.wire.specs.declared.number.Volume.{Volume}
 use Rattle.pieces.specs.declared.piece.Piece.{Piece}

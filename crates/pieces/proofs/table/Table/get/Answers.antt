@@ -1,4 +1,4 @@
-use Rattle.std.proofs.Common.{rules, sym, ◌∙◌}
+use Rattle.std.proofs.Common.{rules}
 use Rattle.pieces.proofs.Slots.{got, got_none}
 use Rattle.pieces.proofs.table.Table.get.Goals as goal
 

@@ -1,4 +1,4 @@
-use Rattle.std.proofs.Common.{◌≡◌, ℕ, ◌%◌, List, length, set, vec_items, rules, refl, sym, ap, ◌∙◌, length-set, arith}
+use Rattle.std.proofs.Common.{◌≡◌, ℕ, ◌%◌, List, length, set, rules, refl, ap, ◌∙◌, length-set}
 use Rattle.std.proofs.lemmas.List.{with_items_is}
 use Rattle.pieces.proofs.Slots.{put_as, absent_as}
 use Rattle.pieces.proofs.table.Table.put_there.Goals as goal
