@@ -1,7 +1,7 @@
 -- Blocks in the order of (volume, block): those that changed after a version, from a key on.
 -- Assumes nothing.
 use Rattle.std.specs.Prelude.{◌≡◌, ℕ, zero, suc, ◌+◌, ◌<◌, ◌≤◌, Bool, true, false, cond, not, ◌&&◌, ◌||◌, List, [], ◌∷◌, ◌==◌, nat_lt, Some, None, Option}
-use Rattle.std.specs.List.{fold, find}
+use Rattle.std.specs.List.{fold, find, count_by}
 use Rattle.pieces.specs.declared.entry.Stamp.{Stamp}
 use Rattle.pieces.specs.declared.entry.Entry.{Entry}
 use Rattle.pieces.specs.declared.changed.Key.{Key}
@@ -77,3 +77,15 @@ abbrev pub ListMeans : Type 0
 ListMeans =
     (size n : ℕ) (since : Option Stamp) (from : Key) (k : Kept) (v b : ℕ) → Sound size k → ((i : ℕ) → (entry_at i k).block.0 < 18446744073709551615) →
     is_before (key_of (suc v) b) from ≡ false → is_below (key_of (suc v) b) (listed n since from k.entries).next ≡ true → Says since k (suc v) b (find (is_block (suc v) b) (listed n since from k.entries).blocks)
+
+-- how many entries are in use at or behind a key
+unfoldable pub is_left : Key → Entry → Bool
+is_left from e = not (e.volume.0 == 0) && not (is_before (entry_key e) from)
+
+abbrev pub left : Kept → Key → ℕ
+left k from = count_by (is_left from) k.entries
+
+-- A list of at least one that isn't the last leaves fewer, so that a pass comes to its end.
+abbrev pub ListEnds : Type 0
+ListEnds =
+    (n : ℕ) (since : Option Stamp) (from to : Key) (k : Kept) → ((i : ℕ) → (entry_at i k).block.0 < 18446744073709551615) → (listed (suc n) since from k.entries).next ≡ Some to → left k to < left k from

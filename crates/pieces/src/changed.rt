@@ -1,7 +1,7 @@
 // Blocks that changed, in the order of volumes and blocks: what a copy that is behind is told.
 ghost use Rattle.std.specs.Prelude.{◌≡◌, ◌+◌, IfOk, not, ◌&&◌, cond, nat_lt, Some, vec_items};
 ghost use Rattle.pieces.specs.Kept.{the_kept};
-ghost use Rattle.pieces.specs.Changes.{is_before, is_newer, is_wanted, is_nearer, nearest_of, nearest, next_number, key_behind, listed, ListMeans};
+ghost use Rattle.pieces.specs.Changes.{is_before, is_newer, is_wanted, is_nearer, nearest_of, nearest, next_number, key_behind, listed, ListMeans, ListEnds};
 
 use crate::entry::{Block, Entry, Stamp};
 use crate::state::Pieces;
@@ -102,8 +102,8 @@ impl Pieces {
         best
     }
 
+    #[tactic(auto, using(crate::proofs::ListMeaning::list_means, crate::proofs::ListEnding::list_ends))]
     // The first blocks, at most so many, at or behind a key that changed after a version, or all; markers too.
-    #[tactic(auto, using(crate::proofs::ListMeaning::list_means))]
     pub fn changed(
         &self,
         heap: Global,
@@ -113,6 +113,7 @@ impl Pieces {
     ) -> Result<Changed, AllocError>
         ensures listed { IfOk result (λ c. (c.blocks.items ≡ (listed most since from (the_kept self.now).entries).blocks) × (c.next ≡ (listed most since from (the_kept self.now).entries).next)) }
         ensures means { ListMeans }
+        ensures ends { ListEnds }
     {
         let mut blocks = Vec::new(heap);
         let mut at = from;
