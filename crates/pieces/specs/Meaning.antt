@@ -1,7 +1,7 @@
 -- What the directory means, and when it is sound.
 -- Assumes nothing.
-use Rattle.std.specs.Prelude.{◌≡◌, ◌≢◌, ◌⊎◌, ℕ, zero, suc, ◌+◌, ◌*◌, ◌/◌, ◌<◌, ◌≤◌, max, Bool, true, false, cond, List, ◌++◌, take, drop, length, ◌==◌, Some, None, Option, slice_index_or}
-use Rattle.std.specs.List.{sum_by, count_by}
+use Rattle.std.specs.Prelude.{◌≡◌, ◌≢◌, ◌⊎◌, ℕ, zero, suc, ◌+◌, ◌*◌, ◌/◌, ◌<◌, ◌≤◌, max, Bool, true, false, cond, List, ◌++◌, take, drop, length, ◌==◌, nat_lt, Some, None, Option, slice_index_or}
+use Rattle.std.specs.List.{sum_by, count_by, list_all}
 use Rattle.disks.specs.Device.{zeros}
 use Rattle.pieces.specs.declared.entry.Entry.{Entry}
 use Rattle.pieces.specs.Entries.{is_block, free_entry, FitsBytes}
@@ -143,3 +143,9 @@ pub record StaysOnDevice : Type 0 where
       ((j : ℕ) → (slice_index_or fs j free_entry ≡ entry_at j r.kept) ⊎ ((slice_index_or fs j free_entry ≡ slice_index_or es j free_entry) × (r.writes.entry ≡ Some j → ⊥))) → OnDevice lives fs r.kept
   pub forgotten_unwritten : (size v : ℕ) (lives : ℕ → Bool) (k : Kept) (es : List Entry) → Sound size k → lives (suc v) ≡ false → OnDevice lives es k → OnDevice lives es (forgotten (suc v) (length k.entries) k)
   pub fewer_live : (lives fewer : ℕ → Bool) (k : Kept) (es : List Entry) → ((v : ℕ) → fewer v ≡ true → lives v ≡ true) → OnDevice lives es k → OnDevice fewer es k
+
+-- Where things lie: no two sectors have one place, and each place is on the device and fits its five bytes.
+pub record PlacesApart : Type 0 where
+  pub one_sector : (size : ℕ) (k : Kept) → Sound size k → (p u m v n : ℕ) → place_of (suc u) m k ≡ suc p → place_of (suc v) n k ≡ suc p → (u ≡ v) × (m ≡ n)
+  pub within : (size v n : ℕ) (k : Kept) → Sound size k → place_of v n k ≤ places_of size
+  pub small : (size i : ℕ) (k : Kept) → Sound size k → size ≤ 1099511627776 → list_all (λ p. nat_lt p 1099511627776) (entry_at i k).places ≡ true

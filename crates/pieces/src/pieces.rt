@@ -1,7 +1,7 @@
 // Where things are, and how an entry of the directory changes.
 ghost use Rattle.std.specs.Prelude.{◌≡◌, ◌<◌, ◌/◌, ◌%◌, length, not, IfOk, OnOk, OnErr, None, position, slice_set, slice_index_or};
 ghost use Rattle.pieces.specs.Entries.{is_block, is_empty, is_free, free_entry};
-ghost use Rattle.pieces.specs.Meaning.{BlankMeans};
+ghost use Rattle.pieces.specs.Meaning.{BlankMeans, PlacesApart};
 ghost use Rattle.pieces.specs.Kept.{the_kept, blank_kept, index_of, vacant, free_place, place_of, found, stamp_of, puts_place, frees_place, with_place};
 ghost use Rattle.pieces.specs.Layouts.{entries_of, places_of};
 
@@ -47,8 +47,10 @@ impl Pieces {
     }
 
     // Where a sector lies; None if it is zeros.
+    #[tactic(auto, using(crate::proofs::Apart::places_apart))]
     pub fn find(&self, at: Address) -> Option<u64>
-        ensures { result ≡ found (place_of at.volume.0 at.sector.0 (the_kept self.now)) }
+        ensures apart { PlacesApart }
+        ensures place { result ≡ found (place_of at.volume.0 at.sector.0 (the_kept self.now)) }
     {
         let index = self.index_of(at.volume, block_of(at.sector))?;
         let place = self.entries[index].places[slot_of(at.sector)];
