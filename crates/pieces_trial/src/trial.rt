@@ -15,6 +15,9 @@ use wire::number::*;
 
 const WRONG: &str = "the directory isn't what the map is";
 
+// After how many pieces of the sparse filling it is loaded again: loading looks through all pieces for each entry.
+const REOPENED: u64 = 4000;
+
 // How many volumes live at a time.
 const VOLUMES: u64 = 4;
 
@@ -311,6 +314,10 @@ pub fn sparse(heap: Global) -> anyhow::Result<(u64, u64)> {
         if !trial.set(address(Volume(1), piece.wrapping_mul(8192)), 7)? {
             return Err(anyhow!("it is full too early"));
         }
+        if piece == REOPENED {
+            trial.open()?;
+            trial.compare()?;
+        }
     }
     if trial.set(address(Volume(2), 0), 7)? {
         return Err(anyhow!("more fits than there are places"));
@@ -325,7 +332,9 @@ pub fn sparse(heap: Global) -> anyhow::Result<(u64, u64)> {
             return Err(anyhow!("no marker is given up"));
         }
     }
-    trial.open()?;
-    trial.compare()?;
+    for piece in 0..1000 {
+        trial.shows(address(Volume(1), piece * 8192))?;
+        trial.shows(address(Volume(2), piece * 8192))?;
+    }
     Ok((places, trial.floor.0))
 }
