@@ -1,14 +1,14 @@
 -- Places are apart, on the device, and fit their bytes: who has one counts as one of its uses, so it is taken.
-use Rattle.std.proofs.Common.{◌≡◌, ◌≢◌, ◌⊎◌, inl, inr, ℕ, zero, suc, ◌+◌, ◌-◌, ◌*◌, ◌/◌, ◌%◌, ◌<◌, ◌≤◌, Bool, true, false, ◌&&◌, ltb, nat_lt, List, [], ◌∷◌, length, get_or, Some, None, Option, refl, sym, ap, ◌∙◌, arith}
-use Rattle.std.specs.List.{list_all, sum_by}
+use Rattle.std.proofs.Common.{◌≡◌, ◌⊎◌, inl, inr, ℕ, zero, suc, ◌/◌, ◌%◌, ◌<◌, ◌≤◌, true, nat_lt, List, [], ◌∷◌, length, get_or, Some, None, Option, refl, ap, arith}
+use Rattle.std.specs.List.{list_all}
 use Rattle.std.proofs.lemmas.Bool.{lt-ltb, and_from, cases_lt}
 use Rattle.std.proofs.lemmas.List.{get_or_past}
 use Rattle.std.proofs.lemmas.List.Sums.{get_or-le-sum_by}
 use Rattle.pieces.specs.declared.entry.Entry.{Entry}
 use Rattle.pieces.specs.Entries.{free_entry}
-use Rattle.pieces.specs.Layouts.{places_of, entries_of}
+use Rattle.pieces.specs.Layouts.{places_of}
 use Rattle.pieces.specs.Kept.{Kept, index_of, entry_at, place_in, place_of, place_at}
-use Rattle.pieces.specs.Meaning.{use_of, uses_in, uses, is_taken, Sound, PlacesApart}
+use Rattle.pieces.specs.Meaning.{use_of, uses_in, uses, Sound, PlacesApart}
 use Rattle.pieces.proofs.Counting.{use_same}
 use Rattle.pieces.proofs.Soundness.{used_taken, taken_in}
 use Rattle.pieces.proofs.Looking.{zeros_at}

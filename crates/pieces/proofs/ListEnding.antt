@@ -1,7 +1,7 @@
 -- A pass over all blocks comes to its end: each list takes one entry away from what is left.
-use Rattle.std.proofs.Common.{◌≡◌, ◌≢◌, ◌⊎◌, inl, inr, ℕ, zero, suc, ◌+◌, ◌<◌, ◌≤◌, Bool, true, false, cond, not, ◌&&◌, ◌==◌, List, [], ◌∷◌, length, get_or, Some, None, Option, refl, sym, ap, ◌∙◌, subst, arith}
-use Rattle.std.specs.List.{count_by, sum_by}
-use Rattle.std.proofs.lemmas.Bool.{cases_lt, and_parts, and_from, not-true, not_from_false, lt-ltb}
+use Rattle.std.proofs.Common.{◌≡◌, inl, inr, ℕ, zero, suc, ◌+◌, ◌<◌, ◌≤◌, Bool, true, false, cond, not, ◌&&◌, ◌==◌, List, [], ◌∷◌, length, get_or, Some, None, Option, refl, sym, ap, ◌∙◌, subst, arith}
+use Rattle.std.specs.List.{sum_by}
+use Rattle.std.proofs.lemmas.Bool.{and_parts, and_from, not-true, not_from_false, lt-ltb}
 use Rattle.std.proofs.lemmas.List.Sums.{sum_by-cons}
 use Rattle.pieces.specs.declared.entry.Stamp.{Stamp}
 use Rattle.pieces.specs.declared.entry.Entry.{Entry}
@@ -9,8 +9,8 @@ use Rattle.pieces.specs.declared.changed.Key.{Key}
 use Rattle.pieces.specs.Entries.{free_entry}
 use Rattle.pieces.specs.Kept.{Kept, entry_at}
 use Rattle.pieces.specs.Meaning.{one}
-use Rattle.pieces.specs.Changes.{entry_key, is_before, is_newer, is_wanted, nearest, next_number, key_behind, Listed, listed, listed_on, is_left, left}
-use Rattle.pieces.proofs.Nearest.{Before, NotBefore, not_before, is_before_from, not_before_from, found_nearest}
+use Rattle.pieces.specs.Changes.{entry_key, is_before, is_newer, is_wanted, nearest, next_number, key_behind, listed, listed_on, is_left, left}
+use Rattle.pieces.proofs.Nearest.{NotBefore, not_before, is_before_from, not_before_from, found_nearest}
 
 clash : {A : Type 0} → false ≡ true → A
 clash e = let z : ◌≡◌ {A = ℕ} 0 1 = cc in absurd (omega arith)

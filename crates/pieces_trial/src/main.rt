@@ -24,7 +24,9 @@ fn run(rt: &HostRuntime) -> anyhow::Result<()> {
     let (places, markers) = dense(heap)?;
     println!(rt; "dense: {places} sectors fit, one more doesn't; {markers} blocks changed")?;
     let (places, floor) = sparse(heap)?;
-    println!(rt; "one sector in each piece: {places} fit, one more doesn't; the floor rises to {floor}")?;
+    println!(rt;
+        "one sector in each piece: {places} fit, one more doesn't; the floor rises to {floor}"
+    )?;
     Ok(())
 }
 

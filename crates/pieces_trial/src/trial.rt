@@ -130,7 +130,11 @@ impl Trial {
 
     fn shows(&mut self, at: Address) -> anyhow::Result<()> {
         let found = match self.pieces.find(at) {
-            Some(place) => self.data.get(place as usize).copied().ok_or(anyhow!("{WRONG}"))?,
+            Some(place) => self
+                .data
+                .get(place as usize)
+                .copied()
+                .ok_or(anyhow!("{WRONG}"))?,
             None => 0,
         };
         let wanted = self
@@ -294,7 +298,9 @@ pub fn dense(heap: Global) -> anyhow::Result<(u64, u64)> {
         return Err(anyhow!("more fits than there are places"));
     }
     for sector in 0..100 {
-        if !trial.set(address(Volume(1), sector), 0)? || !trial.set(address(Volume(1), sector.wrapping_add(places)), 8)? {
+        if !trial.set(address(Volume(1), sector), 0)?
+            || !trial.set(address(Volume(1), sector.wrapping_add(places)), 8)?
+        {
             return Err(anyhow!("what was given back isn't found"));
         }
     }
