@@ -7,7 +7,7 @@ use wire::number::*;
 // A piece is so many blocks of a volume: 8,192 sectors.
 pub const PIECE_BLOCKS: usize = 1024;
 
-// In words, for each of its blocks: the index of its entry and one, or 0. A piece takes 8 KiB, and 48 bytes.
+// In words, for each of its blocks: the index of its entry and one, or 0. A piece takes 8 KiB, and 40 bytes.
 #[derive(Drop)]
 pub struct Piece {
     pub(crate) volume: Volume,
