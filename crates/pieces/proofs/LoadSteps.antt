@@ -96,3 +96,9 @@ sector_back j k h inside =
     let eight : length (take 8 (drop (8 * j) k.entries)) ≡ 8 = simp (length-take, length-drop) (omega arith) in
     ap (λ (n : ℕ). entries_in n (sector_bytes j k)) (sym eight)
     ∙ entries_back (take 8 (drop (8 * j) k.entries)) (λ i l. subst FitsBytes (sym (get_or-take 8 (drop (8 * j) k.entries) i free_entry (omega (arith, eight)) ∙ get_or-drop (8 * j) k.entries i free_entry)) (h (8 * j + i)))
+
+pub load_broken : (lives : ℕ → Bool) (base i : ℕ) (es : List Entry) (e : Entry) (k : Kept) (r : Option Kept) → i < length es → e ≡ get_or es i free_entry → load_entry lives (base + i) e k ≡ None → load_entries lives (base + i) (drop i es) k ≡ r → r ≡ None
+unfolding load_entries
+load_broken lives base i es e k r inside at q held =
+    let first : load_entries lives (base + i) (drop i es) k ≡ then_load (load_entries lives (base + i + 1) (drop (i + 1) es)) (load_entry lives (base + i) (get_or es i free_entry) k) = ap (λ (xs : List Entry). load_entries lives (base + i) xs k) (drop_more es i free_entry inside) in
+    sym held ∙ first ∙ ap (λ (o : Option Kept). then_load (load_entries lives (base + i + 1) (drop (i + 1) es)) o) (ap (λ (x : Entry). load_entry lives (base + i) x k) (sym at) ∙ q)

@@ -1,6 +1,6 @@
 // The directory as it is on the device: sectors of eight entries each.
-ghost use Rattle.std.specs.Prelude.{◌≡◌, ◌+◌, ◌*◌, ◌≤◌, ◌<◌, length, Some, None, IfOk, OnOk, take, drop, MatchOption};
-ghost use Rattle.pieces.specs.declared.load.Unloaded.TheVariants.{NoMemory};
+ghost use Rattle.std.specs.Prelude.{◌≡◌, ◌+◌, ◌*◌, ◌≤◌, ◌<◌, length, Some, None, IfOk, OnOk, take, drop, MatchOption, OnErr, IfErr};
+ghost use Rattle.pieces.specs.declared.load.Unloaded.TheVariants.{NoMemory, Broken};
 ghost use Rattle.pieces.specs.Meaning.{LoadMeans, LoadsSectors, StaysOnDevice};
 ghost use Rattle.pieces.specs.Kept.{the_kept, index_of, raised};
 ghost use Rattle.pieces.specs.Layouts.{directory_sectors_of};
@@ -34,6 +34,7 @@ impl Pieces {
     fn restore(&mut self, heap: Global, index: usize, entry: Entry) -> Result<(), Unloaded>
         requires { index < length self.old.entries.items }
         ensures kept { IfOk result (λ u. restores index entry (the_kept self.old) ≡ Some (the_kept self.new)) }
+        ensures broken { IfErr result (λ e. e ≡ Broken → restores index entry (the_kept self.old) ≡ None) }
         ensures layout { self.new.layout ≡ self.old.layout }
     {
         if self.index_of(entry.volume, entry.block).is_some() {
@@ -54,6 +55,7 @@ impl Pieces {
     ) -> Result<(), Unloaded>
         requires { index < length self.old.entries.items }
         ensures kept { IfOk result (λ u. load_entry (is_living lives.now) index entry (the_kept self.old) ≡ Some (the_kept self.new)) }
+        ensures broken { IfErr result (λ e. e ≡ Broken → load_entry (is_living lives.now) index entry (the_kept self.old) ≡ None) }
         ensures layout { self.new.layout ≡ self.old.layout }
     {
         if lives.contains(&entry.volume) {
@@ -75,6 +77,7 @@ impl Pieces {
     ) -> Result<(), Unloaded>
         requires { number < directory_sectors_of self.old.layout.size }
         ensures kept { IfOk result (λ u. load_entries (is_living lives.now) (8 * number) (entries_in 8 sector.now) (the_kept self.old) ≡ Some (the_kept self.new)) }
+        ensures broken { IfErr result (λ e. e ≡ Broken → load_entries (is_living lives.now) (8 * number) (entries_in 8 sector.now) (the_kept self.old) ≡ None) }
         ensures means { LoadMeans }
         ensures sectors { LoadsSectors }
         ensures stays { StaysOnDevice }
@@ -113,7 +116,8 @@ impl Pieces {
 // Takes a place that wasn't taken.
 #[tactic(auto, unfolding(crate::specs::Loads::take_all))]
 fn take_one(taken: &mut [bool], place: u64) -> Result<(), Unloaded>
-    ensures { IfOk result (λ u. take_new place taken.old ≡ Some taken.new) }
+    ensures ok { IfOk result (λ u. take_new place taken.old ≡ Some taken.new) }
+    ensures err { OnErr result (take_new place taken.old ≡ None) }
 {
     if place == 0 {
         return Ok(());
@@ -126,7 +130,8 @@ fn take_one(taken: &mut [bool], place: u64) -> Result<(), Unloaded>
 }
 
 fn take_places(taken: &mut [bool], places: &[u64]) -> Result<(), Unloaded>
-    ensures { IfOk result (λ u. take_all places.now taken.old ≡ Some taken.new) }
+    ensures ok { IfOk result (λ u. take_all places.now taken.old ≡ Some taken.new) }
+    ensures err { OnErr result (take_all places.now taken.old ≡ None) }
 {
     for place in places {
         take_one(taken, *place)?;
