@@ -1,0 +1,9 @@
+pub mod Layouts
+pub mod Entries
+pub mod Kept
+pub mod Loads
+pub mod Meaning
+pub mod Changes
+pub mod Ranges
+pub mod Tables
+pub mod Agreements

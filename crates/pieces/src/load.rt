@@ -1,0 +1,140 @@
+// The directory as it is on the device: sectors of eight entries each.
+ghost use Rattle.std.specs.Prelude.{◌≡◌, ◌+◌, ◌*◌, ◌≤◌, ◌<◌, length, Some, None, IfOk, OnOk, take, drop, MatchOption, OnErr, IfErr};
+ghost use Rattle.pieces.specs.declared.load.Unloaded.TheVariants.{NoMemory, Broken};
+ghost use Rattle.pieces.specs.Meaning.{LoadMeans, LoadsSectors, StaysOnDevice};
+ghost use Rattle.pieces.specs.Kept.{the_kept, index_of, raised};
+ghost use Rattle.pieces.specs.Layouts.{directory_sectors_of};
+ghost use Rattle.pieces.specs.Loads.{sector_bytes, take_new, take_all, restores, load_entry, load_entries, entries_in, is_living};
+
+use crate::entry::{ENTRY_BYTES, Entry, Stamp};
+use crate::state::Pieces;
+use octets::{BLANK_SECTOR, SECTOR_BYTES};
+use std::alloc::{AllocError, Global};
+use wire::number::*;
+
+// Why a directory isn't loaded.
+#[derive(Clone, Copy, Debug, PartialEq, Eq)]
+pub enum Unloaded {
+    // it contradicts itself: a place or a block twice, or a place that the device hasn't
+    Broken,
+    NoMemory,
+}
+
+impl From<AllocError> for Unloaded {
+    ghost from_gives = { λ e n. n ≡ NoMemory };
+
+    fn from(_: AllocError) -> Unloaded {
+        Unloaded::NoMemory
+    }
+}
+
+impl Pieces {
+    // An entry comes back from the device.
+    #[tactic(auto, unfolding(crate::specs::Loads::restores))]
+    fn restore(&mut self, heap: Global, index: usize, entry: Entry) -> Result<(), Unloaded>
+        requires { index < length self.old.entries.items }
+        ensures kept { IfOk result (λ u. restores index entry (the_kept self.old) ≡ Some (the_kept self.new)) }
+        ensures broken { IfErr result (λ e. e ≡ Broken → restores index entry (the_kept self.old) ≡ None) }
+        ensures layout { self.new.layout ≡ self.old.layout }
+    {
+        if self.index_of(entry.volume, entry.block).is_some() {
+            return Err(Unloaded::Broken);
+        }
+        take_places(self.taken.as_mut_slice(), &entry.places)?;
+        self.place_entry(heap, index, entry)?;
+        Ok(())
+    }
+
+    // So if its volume lives; else it is free.
+    fn load_entry(
+        &mut self,
+        heap: Global,
+        index: usize,
+        entry: Entry,
+        lives: &[Volume],
+    ) -> Result<(), Unloaded>
+        requires { index < length self.old.entries.items }
+        ensures kept { IfOk result (λ u. load_entry (is_living lives.now) index entry (the_kept self.old) ≡ Some (the_kept self.new)) }
+        ensures broken { IfErr result (λ e. e ≡ Broken → load_entry (is_living lives.now) index entry (the_kept self.old) ≡ None) }
+        ensures layout { self.new.layout ≡ self.old.layout }
+    {
+        if lives.contains(&entry.volume) {
+            self.restore(heap, index, entry)
+        } else {
+            Ok(())
+        }
+    }
+
+    #[tactic(auto, using(crate::proofs::Promised::load_promised))]
+    // A sector of the directory, as it is on the device, when these volumes live. The sectors are loaded into a new directory, one after the
+    // other; where one is broken nothing is said of what is left.
+    pub fn load_sector(
+        &mut self,
+        heap: Global,
+        number: u64,
+        sector: &[u8; SECTOR_BYTES],
+        lives: &[Volume],
+    ) -> Result<(), Unloaded>
+        requires { number < directory_sectors_of self.old.layout.size }
+        ensures kept { IfOk result (λ u. load_entries (is_living lives.now) (8 * number) (entries_in 8 sector.now) (the_kept self.old) ≡ Some (the_kept self.new)) }
+        ensures broken { IfErr result (λ e. e ≡ Broken → load_entries (is_living lives.now) (8 * number) (entries_in 8 sector.now) (the_kept self.old) ≡ None) }
+        ensures means { LoadMeans }
+        ensures sectors { LoadsSectors }
+        ensures stays { StaysOnDevice }
+        ensures layout { self.new.layout ≡ self.old.layout }
+    {
+        for i in 0..8 {
+            let entry = Entry::read(&sector[ENTRY_BYTES * i..ENTRY_BYTES * i + ENTRY_BYTES]);
+            self.load_entry(heap, 8 * number as usize + i, entry, lives)?;
+        }
+        Ok(())
+    }
+
+    // No stamp that is given up is above the floor.
+    pub fn raise_floor(&mut self, floor: Stamp)
+        ensures kept { the_kept self.new ≡ raised floor.0 (the_kept self.old) }
+        ensures layout { self.new.layout ≡ self.old.layout }
+    {
+        self.floor = Stamp(self.floor.0.max(floor.0));
+    }
+
+    // How a sector of the directory is to be.
+    pub fn directory_sector(&self, number: u64) -> [u8; SECTOR_BYTES]
+        requires { number < directory_sectors_of self.now.layout.size }
+        ensures { result ≡ sector_bytes number (the_kept self.now) }
+    {
+        let mut sector = BLANK_SECTOR;
+        for i in 0..8 {
+            self.entries[8 * number as usize + i].fill(
+                &mut sector[ENTRY_BYTES * i..ENTRY_BYTES * i + ENTRY_BYTES],
+            );
+        }
+        sector
+    }
+}
+
+// Takes a place that wasn't taken.
+#[tactic(auto, unfolding(crate::specs::Loads::take_all))]
+fn take_one(taken: &mut [bool], place: u64) -> Result<(), Unloaded>
+    ensures ok { IfOk result (λ u. take_new place taken.old ≡ Some taken.new) }
+    ensures err { OnErr result (take_new place taken.old ≡ None) }
+{
+    if place == 0 {
+        return Ok(());
+    }
+    if place >= taken.len() as u64 || taken[place as usize] {
+        return Err(Unloaded::Broken);
+    }
+    taken[place as usize] = true;
+    Ok(())
+}
+
+fn take_places(taken: &mut [bool], places: &[u64]) -> Result<(), Unloaded>
+    ensures ok { IfOk result (λ u. take_all places.now taken.old ≡ Some taken.new) }
+    ensures err { OnErr result (take_all places.now taken.old ≡ None) }
+{
+    for place in places {
+        take_one(taken, *place)?;
+    }
+    Ok(())
+}
