@@ -1,0 +1,3 @@
+pub mod Codecs
+pub mod Formats
+pub mod Seen

@@ -1,0 +1,72 @@
+// Bundles of calls, and what they were replied.
+ghost use Rattle.std.specs.Prelude.{◌≡◌, map};
+ghost use Rattle.packets.specs.Codecs.{Gives, Puts};
+ghost use Rattle.packets.specs.Formats.{item, bundle, CallItem, CallBundle};
+ghost use Rattle.packets.specs.Seen.{see_item, see_bundle};
+
+use crate::bytes::Bytes;
+use crate::fault::*;
+use crate::frame::*;
+use crate::list::*;
+use copies::message::*;
+use copies::number::*;
+use std::alloc::Global;
+
+// The longest call: a write.
+pub const MOST_CALL: u16 = 537;
+
+// How many calls a bundle has at most.
+pub const MOST_CALLS: u8 = 8;
+
+impl Bytes for Item<Vec<u8>> {
+    ghost View = { CallItem };
+
+    ghost view = { see_item };
+
+    ghost codec = { item };
+
+    #[tactic(auto, unfolding(crate::specs::Formats::item))]
+    fn put(&self, out: &mut Vec<u8>) -> Result<(), Unsent> {
+        put_frame(self.id.0, &self.call, MOST_CALL, out)
+    }
+
+    #[tactic(auto, unfolding(crate::specs::Formats::item))]
+    fn take(heap: Global, bytes: &[u8]) -> Result<(Item<Vec<u8>>, &[u8]), Unread> {
+        let ((id, call), rest) = take_frame(heap, MOST_CALL, bytes)?;
+        let id = CallNumber(id);
+        Ok((Item { id, call }, rest))
+    }
+}
+
+impl Bytes for Bundle<Vec<u8>> {
+    ghost View = { CallBundle };
+
+    ghost view = { see_bundle };
+
+    ghost codec = { bundle };
+
+    #[tactic(auto, unfolding(crate::specs::Formats::bundle))]
+    fn put(&self, out: &mut Vec<u8>) -> Result<(), Unsent> {
+        self.house.0.put(out)?;
+        self.number.incarnation.put(out)?;
+        self.number.counter.put(out)?;
+        put_few(&self.calls, MOST_CALLS, out)
+    }
+
+    #[tactic(auto, unfolding(crate::specs::Formats::bundle))]
+    fn take(heap: Global, bytes: &[u8]) -> Result<(Bundle<Vec<u8>>, &[u8]), Unread> {
+        let (house, rest) = u64::take(heap, bytes)?;
+        let (incarnation, rest) = u64::take(heap, rest)?;
+        let (counter, rest) = u64::take(heap, rest)?;
+        let (calls, rest) = take_few(heap, MOST_CALLS, rest)?;
+        let bundle = Bundle {
+            house: HouseNumber(house),
+            number: Number {
+                incarnation,
+                counter,
+            },
+            calls,
+        };
+        Ok((bundle, rest))
+    }
+}

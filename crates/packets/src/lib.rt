@@ -1,0 +1,9 @@
+// What houses say to each other, and what a copy stores, as bytes, high byte first.
+#![tactic(auto)]
+
+pub mod bundle;
+pub mod bytes;
+pub mod fault;
+mod frame;
+mod list;
+pub mod number;
