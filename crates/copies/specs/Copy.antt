@@ -1,6 +1,6 @@
 -- What a house does at each event, but for the blocks: the agreement, bundles, catching up. What is to be done on blocks is left as work.
 -- Assumes nothing.
-use Rattle.std.specs.Prelude.{◌≡◌, ℕ, suc, ◌+◌, ◌*◌, ◌/◌, ◌%◌, min, max, Bool, true, false, cond, ◌&&◌, ◌||◌, not, List, [], ◌∷◌, length, Option, Some, None, nat_lt, nat_le, ◌==◌}
+use Rattle.std.specs.Prelude.{◌≡◌, ℕ, suc, ◌+◌, ◌*◌, ◌/◌, ◌%◌, min, max, Bool, true, false, cond, ◌&&◌, ◌||◌, not, List, [], ◌∷◌, ◌++◌, length, Option, Some, None, nat_lt, nat_le, ◌==◌}
 use Rattle.disks.specs.Cluster.{put}
 use Rattle.agreement.specs.Copies.{Proposal, nothing, voted, rank, higher}
 use Rattle.copies.specs.Messages.{Item, Bundle, Command, Reply, Session, Recovery, level, recovers, is_level, Agreeing, Status, Want, Part, Tail, more, ends, above}
@@ -329,4 +329,4 @@ module _ {X B O A : Type 0} where
   on_tick t = cond (is_copy t.memory.me) (stirs t.agreeing.recovery (resend t)) (resend t)
 
   abbrev pub queued : ℕ → O → Turn X B O A → Turn X B O A
-  queued k o t = record t { memory = record t.memory { waiting = record { id = k; call = o } ∷ t.memory.waiting } }
+  queued k o t = record t { memory = record t.memory { waiting = t.memory.waiting ++ record { id = k; call = o } ∷ [] } }

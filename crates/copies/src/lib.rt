@@ -2,6 +2,8 @@
 #![tactic(auto)]
 
 pub mod agreeing;
+pub mod bundle;
+pub mod done;
 pub mod group;
 pub mod memory;
 pub mod message;
