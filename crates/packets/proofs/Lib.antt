@@ -1,1 +1,3 @@
 pub mod Sounds
+pub mod NumberBytes
+pub mod Loops

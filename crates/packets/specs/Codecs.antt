@@ -1,7 +1,9 @@
 -- How values are spelled as bytes and read again, by parts: numbers, texts, one after the other, lists, kinds.
 -- Assumes nothing.
-use Rattle.std.specs.Prelude.{◌≡◌, ◌≢◌, ◌⊎◌, ℕ, zero, suc, ◌+◌, ◌-◌, ◌<◌, ◌≤◌, ◌^◌, Bool, true, false, cond, ◌&&◌, ◌||◌, T, List, [], ◌∷◌, ◌++◌, length, take, drop, Result, Ok, Err, nat_lt, nat_le, ◌==◌}
+use Rattle.std.specs.Prelude.{◌≡◌, ◌≢◌, ◌⊎◌, ℕ, zero, suc, ◌+◌, ◌-◌, ◌<◌, ◌≤◌, ◌^◌, Bool, true, false, cond, ◌&&◌, ◌||◌, T, List, [], ◌∷◌, ◌++◌, length, take, drop, Result, Ok, Err, nat_lt, nat_le, vec_items, ◌==◌}
+use Rattle.std.proofs.Common.{inl, inr}
 use Rattle.std.specs.List.{flat_map, list_all}
+use Rattle.std.specs.Global.{Vec}
 use Rattle.disks.specs.Device.{all_bytes}
 use Rattle.octets.specs.Numbers.{big, bytes_of}
 use Rattle.packets.specs.declared.fault.Fault.{Fault}
@@ -79,6 +81,77 @@ unfoldable pub frame_at : ℕ → List ℕ → Result ((ℕ × List ℕ) × List
 frame_at most bs =
     number_at 4 bs >>= λ z. cond (nat_lt z.0 8 || nat_lt (8 + most) z.0) (Err Range) (number_at 8 z.1 >>= λ n. text_at (z.0 - 8) n.1 >>= λ b. Ok ((n.0, b.0), b.1))
 
+-- a count that must be so many, in a byte, and the values
+abbrev pub exactly : {A : Type 0} → ℕ → Codec A → Codec (List A)
+exactly n c =
+    record {
+      bytes = λ xs. bytes_of 1 n ++ flat_map c.bytes xs;
+      read = λ bs. number_at 1 bs >>= λ m. cond (m.0 == n) (many_at c n m.1) (Err Range);
+      fits = λ xs. length xs == n && list_all c.fits xs;
+    }
+
+-- no bytes
+abbrev pub empty : Codec (Unit {0})
+empty = record { bytes = λ u. []; read = λ bs. Ok (tt, bs); fits = λ u. true }
+
+abbrev pub on_either : {A B C : Type 0} → (A → C) → (B → C) → A ⊎ B → C
+on_either f g (inl x) = f x
+on_either f g (inr y) = g y
+
+-- What is of one of several kinds: the number of its kind, and the bytes behind it.
+pub record Kinds (A : Type 0) : Type 0 where
+  pub kind : A → ℕ
+  pub body : A → List ℕ
+  pub read_as : ℕ → List ℕ → Result (A × List ℕ) Fault
+  pub fits : A → Bool
+
+pub record SoundKinds {A : Type 0} (d : Kinds A) : Type 0 where
+  pub small : (x : A) → d.kind x < 256
+  pub back : (x : A) (rest : List ℕ) → T (d.fits x) → d.read_as (d.kind x) (d.body x ++ rest) ≡ Ok (x, rest)
+  pub spelling : (n : ℕ) (bs : List ℕ) (x : A) (rest : List ℕ) → T (all_bytes bs) → d.read_as n bs ≡ Ok (x, rest) → (d.kind x ≡ n) × (d.body x ++ rest ≡ bs) × T (d.fits x)
+
+-- one kind, and one kind more
+abbrev pub only : {A : Type 0} → ℕ → Codec A → Kinds A
+only k c = record { kind = λ x. k; body = c.bytes; read_as = λ n bs. cond (n == k) (c.read bs) (Err Range); fits = c.fits }
+
+abbrev pub or_kind : {A B : Type 0} → ℕ → Codec A → Kinds B → Kinds (A ⊎ B)
+or_kind k c d =
+    record {
+      kind = on_either (λ x. k) d.kind;
+      body = on_either c.bytes d.body;
+      read_as = λ n bs. cond (n == k) (c.read bs >>= λ x. Ok (inl x.0, x.1)) (d.read_as n bs >>= λ y. Ok (inr y.0, y.1));
+      fits = on_either c.fits d.fits;
+    }
+
+-- the kind in a byte
+abbrev pub of_kinds : {A : Type 0} → Kinds A → Codec A
+of_kinds d =
+    record {
+      bytes = λ x. bytes_of 1 (d.kind x) ++ d.body x;
+      read = λ bs. number_at 1 bs >>= λ n. d.read_as n.0 n.1;
+      fits = d.fits;
+    }
+
+-- all of the bytes
+abbrev pub whole : {A : Type 0} → Codec A → List ℕ → Result A Fault
+whole c bs = c.read bs >>= λ x. cond (length x.1 == 0) (Ok x.0) (Err Left)
+
+-- What is promised of a codec, where all bytes are read: what was encoded decodes to itself; what decodes is spelled so, and has bytes; and
+-- what is refused has no spelling.
+abbrev pub RoundTrip : {A : Type 0} → Codec A → Type 0
+RoundTrip {A = A} c = (x : A) → T (c.fits x) → whole c (c.bytes x) ≡ Ok x
+
+abbrev pub OneSpelling : {A : Type 0} → Codec A → Type 0
+OneSpelling {A = A} c = (bs : List ℕ) (x : A) → T (all_bytes bs) → whole c bs ≡ Ok x → (c.bytes x ≡ bs) × T (c.fits x)
+
+abbrev pub Refuses : {A : Type 0} → Codec A → Type 0
+Refuses {A = A} c = (bs : List ℕ) (f : Fault) → whole c bs ≡ Err f → (x : A) → T (c.fits x) → c.bytes x ≢ bs
+
+pub record SoundWhole {A : Type 0} (c : Codec A) : Type 0 where
+  pub back : RoundTrip c
+  pub spelling : OneSpelling c
+  pub refusals : Refuses c
+
 -- what a function returned, seen by a view, is what reading gives, unless memory ran out
 abbrev pub Fails : {Y : Type 0} → Unread → Result Y Fault → Type 0
 Fails unread.Memory read = Unit {0}
@@ -88,8 +161,17 @@ abbrev pub Gives : {X Y : Type 0} → (X → Y) → Result X Unread → Result Y
 Gives view (Ok x) read = read ≡ Ok (view x)
 Gives view (Err e) read = Fails e read
 
+-- why a value's bytes were not put somewhere
+abbrev pub Unfit : {A : Type 0} → Codec A → A → Unsent → Type 0
+Unfit c x unsent.Memory = Unit {0}
+Unfit c x unsent.TooMuch = c.fits x ≡ false
+
 -- a value's bytes were put behind what was there, unless memory ran out or it has none
 abbrev pub Puts : {A U : Type 0} → Codec A → A → (old new : List ℕ) → Result U Unsent → Type 0
 Puts c x old new (Ok u) = (new ≡ old ++ c.bytes x) × T (c.fits x)
-Puts c x old new (Err unsent.Memory) = Unit {0}
-Puts c x old new (Err unsent.TooMuch) = c.fits x ≡ false
+Puts c x old new (Err e) = Unfit c x e
+
+-- a value's bytes, unless memory ran out or it has none
+abbrev pub Encodes : {A : Type 0} → Codec A → A → Result (Vec ℕ) Unsent → Type 0
+Encodes c x (Ok v) = (vec_items v ≡ c.bytes x) × T (c.fits x)
+Encodes c x (Err e) = Unfit c x e

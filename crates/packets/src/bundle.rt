@@ -1,8 +1,8 @@
 // Bundles of calls, and what they were replied.
 ghost use Rattle.std.specs.Prelude.{◌≡◌, map};
 ghost use Rattle.packets.specs.Codecs.{Gives, Puts};
-ghost use Rattle.packets.specs.Formats.{item, bundle, CallItem, CallBundle};
-ghost use Rattle.packets.specs.Seen.{see_item, see_bundle};
+ghost use Rattle.packets.specs.Formats.{item, reply, bundle, session, CallItem, CallBundle, AnswerReply, AnswerSession};
+ghost use Rattle.packets.specs.Seen.{see_item, see_bundle, see_reply, see_session};
 
 use crate::bytes::Bytes;
 use crate::fault::*;
@@ -15,7 +15,10 @@ use std::alloc::Global;
 // The longest call: a write.
 pub const MOST_CALL: u16 = 537;
 
-// How many calls a bundle has at most.
+// The longest answer: a sector.
+pub const MOST_ANSWER: u16 = 513;
+
+// How many calls a bundle has at most, and so how many replies there are.
 pub const MOST_CALLS: u8 = 8;
 
 impl Bytes for Item<Vec<u8>> {
@@ -35,6 +38,26 @@ impl Bytes for Item<Vec<u8>> {
         let ((id, call), rest) = take_frame(heap, MOST_CALL, bytes)?;
         let id = CallNumber(id);
         Ok((Item { id, call }, rest))
+    }
+}
+
+impl Bytes for Reply<Vec<u8>> {
+    ghost View = { AnswerReply };
+
+    ghost view = { see_reply };
+
+    ghost codec = { reply };
+
+    #[tactic(auto, unfolding(crate::specs::Formats::reply))]
+    fn put(&self, out: &mut Vec<u8>) -> Result<(), Unsent> {
+        put_frame(self.id.0, &self.reply, MOST_ANSWER, out)
+    }
+
+    #[tactic(auto, unfolding(crate::specs::Formats::reply))]
+    fn take(heap: Global, bytes: &[u8]) -> Result<(Reply<Vec<u8>>, &[u8]), Unread> {
+        let ((id, reply), rest) = take_frame(heap, MOST_ANSWER, bytes)?;
+        let id = CallNumber(id);
+        Ok((Reply { id, reply }, rest))
     }
 }
 
@@ -68,5 +91,35 @@ impl Bytes for Bundle<Vec<u8>> {
             calls,
         };
         Ok((bundle, rest))
+    }
+}
+
+impl Bytes for Session<Vec<u8>> {
+    ghost View = { AnswerSession };
+
+    ghost view = { see_session };
+
+    ghost codec = { session };
+
+    #[tactic(auto, unfolding(crate::specs::Formats::session))]
+    fn put(&self, out: &mut Vec<u8>) -> Result<(), Unsent> {
+        self.number.incarnation.put(out)?;
+        self.number.counter.put(out)?;
+        put_few(&self.replies, MOST_CALLS, out)
+    }
+
+    #[tactic(auto, unfolding(crate::specs::Formats::session))]
+    fn take(heap: Global, bytes: &[u8]) -> Result<(Session<Vec<u8>>, &[u8]), Unread> {
+        let (incarnation, rest) = u64::take(heap, bytes)?;
+        let (counter, rest) = u64::take(heap, rest)?;
+        let (replies, rest) = take_few(heap, MOST_CALLS, rest)?;
+        let session = Session {
+            number: Number {
+                incarnation,
+                counter,
+            },
+            replies,
+        };
+        Ok((session, rest))
     }
 }

@@ -1,9 +1,12 @@
 // What houses say to each other, and what a copy stores, as bytes, high byte first.
 #![tactic(auto)]
 
+pub mod block;
 pub mod bundle;
 pub mod bytes;
 pub mod fault;
 mod frame;
 mod list;
 pub mod number;
+pub mod rest;
+pub mod status;

@@ -86,6 +86,9 @@ impl Bytes for u64 {
     }
 }
 
+// How many values the lower half of 16 bytes has.
+const HALF: u128 = 1 << 64;
+
 impl Bytes for u128 {
     ghost View = { ℕ };
 
@@ -93,16 +96,19 @@ impl Bytes for u128 {
 
     ghost codec = { number 16 };
 
+    #[tactic(auto, using(crate::proofs::NumberBytes::sixteen_put))]
     fn put(&self, out: &mut Vec<u8>) -> Result<(), Unsent> {
-        let sixteen = self.to_be_bytes();
-        out.extend_from_slice(&sixteen)?;
+        let high = (*self / HALF) as u64;
+        let low = (*self % HALF) as u64;
+        high.put(out)?;
+        low.put(out)?;
         Ok(())
     }
 
-    fn take(_heap: Global, bytes: &[u8]) -> Result<(u128, &[u8]), Unread> {
-        let (first, rest) = bytes
-            .split_first_chunk::<16>()
-            .ok_or(Unread::Fault(Fault::Short))?;
-        Ok((u128::from_be_bytes(*first), rest))
+    #[tactic(auto, using(crate::proofs::NumberBytes::sixteen_at))]
+    fn take(heap: Global, bytes: &[u8]) -> Result<(u128, &[u8]), Unread> {
+        let (high, rest) = u64::take(heap, bytes)?;
+        let (low, rest) = u64::take(heap, rest)?;
+        Ok((u128::from(high) * HALF + u128::from(low), rest))
     }
 }
