@@ -1,3 +1,4 @@
 pub mod Sounds
 pub mod NumberBytes
 pub mod Loops
+pub mod Tables

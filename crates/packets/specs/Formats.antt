@@ -116,12 +116,14 @@ abbrev pub held_of : Sectors → Bytes
 held_of [] = []
 held_of (s ∷ ss) = cond (all_zero s) [] s ++ held_of ss
 
+-- a sector that holds something, or zeros that aren't there
+abbrev pub sector_at : Bool → Bytes → Result (Bytes × Bytes) Fault
+sector_at held bs = cond held (text_at 512 bs >>= λ s. cond (all_zero s.0) (Err Range) (Ok (s.0, s.1))) (Ok (zeros 512, bs))
+
 -- so many sectors, of which a mask says which hold anything
 unfoldable pub sectors_at : ℕ → (mask : ℕ) → Bytes → Result (Sectors × Bytes) Fault
 sectors_at zero mask bs = Ok ([], bs)
-sectors_at (suc n) mask bs =
-    cond (mask % 2 == 0) (sectors_at n (mask / 2) bs >>= λ ss. Ok (zeros 512 ∷ ss.0, ss.1))
-    (text_at 512 bs >>= λ s. cond (all_zero s.0) (Err Range) (sectors_at n (mask / 2) s.1 >>= λ ss. Ok (s.0 ∷ ss.0, ss.1)))
+sectors_at (suc n) mask bs = sector_at (mask % 2 == 1) bs >>= λ s. sectors_at n (mask / 2) s.1 >>= λ ss. Ok (s.0 ∷ ss.0, ss.1)
 
 -- a block's eight sectors: the mask, and the sectors that hold anything
 unfoldable pub block : Codec Sectors
@@ -145,12 +147,9 @@ head =
     shaped (λ p. record { number = record { 0 = p.0 }; size = record { 0 = p.1.0 }; token = record { 0 = p.1.1.0 }; used = p.1.1.1 }) (λ h. (h.number.0, (h.size.0, (h.token.0, h.used))))
     (number 8 then number 8 then number 8 then number 8)
 
-unfoldable pub heads : Codec (List Head)
-heads = listed 2 4096 head
-
 -- next, weight, heads
 unfoldable pub rest : Codec Service
-rest = shaped (λ p. record { next = p.0; weight = p.1.0; heads = p.1.1 }) (λ r. (r.next, (r.weight, r.heads))) (number 8 then number 8 then heads)
+rest = shaped (λ p. record { next = p.0; weight = p.1.0; heads = p.1.1 }) (λ r. (r.next, (r.weight, r.heads))) (number 8 then number 8 then listed 2 4096 head)
 
 -- how a part ends: with each house's session, in the houses' order
 pub data PartEnd : Type 0 where

@@ -1,10 +1,7 @@
-// A block of a volume: eight sectors, most of which may hold nothing but zeros.
+// A block of a volume: eight sectors, of which those that hold nothing but zeros have no bytes.
 ghost use Rattle.std.specs.Prelude.{◌≡◌, vec_len};
 
 use octets::SECTOR_BYTES;
-
-// How many sectors a block has.
-pub const BLOCK_SECTORS: u64 = 8;
 
 #[derive(Drop)]
 pub struct Block {
