@@ -2,3 +2,4 @@ pub mod Sounds
 pub mod NumberBytes
 pub mod Loops
 pub mod Tables
+pub mod Blocks

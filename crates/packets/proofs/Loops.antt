@@ -16,11 +16,15 @@ use Rattle.packets.specs.Codecs.{◌>>=◌, Codec, many_at, many, Fails, Unfit}
 abbrev pub with_front : {A : Type 0} → List A → Result (List A × List ℕ) Fault → Result (List A × List ℕ) Fault
 with_front front read = read >>= λ x. Ok (front ++ x.0, x.1)
 
-module _ {A : Type 0} (c : Codec A) where
-  regroup : (front : List A) (n : A) (read : Result (List A × List ℕ) Fault) → with_front front (read >>= λ x. Ok (n ∷ x.0, x.1)) ≡ with_front (front ++ n ∷ []) read
-  regroup front n (Ok x) = ap (λ (ns : List A). Ok (ns, x.1)) (simp append_assoc)
-  regroup front n (Err f) = refl
+pub front_nil : {A : Type 0} (read : Result (List A × List ℕ) Fault) → with_front [] read ≡ read
+front_nil (Ok x) = refl
+front_nil (Err f) = refl
 
+pub regroup : {A : Type 0} (front : List A) (n : A) (read : Result (List A × List ℕ) Fault) → with_front front (read >>= λ x. Ok (n ∷ x.0, x.1)) ≡ with_front (front ++ n ∷ []) read
+regroup {A = A} front n (Ok x) = ap (λ (ns : List A). Ok (ns, x.1)) (simp append_assoc)
+regroup front n (Err f) = refl
+
+module _ {A : Type 0} (c : Codec A) where
   pub goes_on : (front : List A) (count i : ℕ) (bytes : List ℕ) (n : A) (after : List ℕ) (total : Result (List A × List ℕ) Fault) → i < count → c.read bytes ≡ Ok (n, after)
       → with_front front (many_at c (count - i) bytes) ≡ total → with_front (front ++ n ∷ []) (many_at c (count - (i + 1)) after) ≡ total
   unfolding many_at

@@ -63,7 +63,7 @@ abbrev pub shown_session : Session (Vec ℕ) → AnswerSession
 shown_session s = record { incarnation = s.incarnation; counter = s.counter; replies = map shown_reply s.replies }
 
 -- what the first so many numbers have, in their order
-abbrev pub table : {A : Type 0} → ℕ → (ℕ → A) → List A
+unfoldable pub table : {A : Type 0} → ℕ → (ℕ → A) → List A
 table zero f = []
 table (suc n) f = table n f ++ f n ∷ []
 

@@ -16,6 +16,7 @@ use volumes::weigh::is_blank;
 pub const BLOCK_SECTORS: u8 = 8;
 
 // Which sectors hold anything.
+#[tactic(auto, using(crate::proofs::Blocks::pow_eight, crate::proofs::Blocks::pow_more))]
 fn mask(sectors: &[[u8; SECTOR_BYTES]]) -> u16
     requires { length sectors.now ≤ 8 }
     ensures is { result ≡ mask_of sectors.now }
@@ -71,12 +72,12 @@ fn take_sectors(
     ensures { Gives (λ x. (x.0.items, x.1.now)) result (sectors_at 8 mask bytes.now) }
 {
     let mut sectors = Vec::new(heap);
-    let mut mask = mask;
+    let mut left = mask;
     let mut rest = bytes;
     for _ in 0..BLOCK_SECTORS {
-        let (sector, after) = take_sector(mask % 2 == 1, rest)?;
+        let (sector, after) = take_sector(left % 2 == 1, rest)?;
         sectors.push(sector)?;
-        mask /= 2;
+        left /= 2;
         rest = after;
     }
     Ok((sectors, rest))

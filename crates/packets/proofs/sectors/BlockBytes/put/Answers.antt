@@ -1,0 +1,4 @@
+use Rattle.packets.proofs.sectors.BlockBytes.put.Goals as goal
+
+pub returns : goal.returns
+returns c = ?
