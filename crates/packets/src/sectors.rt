@@ -1,5 +1,6 @@
 // The bytes of a block: a mask of its sectors that hold anything, and these sectors.
-ghost use Rattle.std.specs.Prelude.{◌≡◌, ◌<◌, ◌≤◌, ◌^◌, ◌++◌, not, length, OnOk};
+ghost use Rattle.std.specs.Prelude.{◌≡◌, ◌<◌, ◌≤◌, ◌^◌, ◌++◌, ◌==◌, T, not, length, OnOk};
+ghost use Rattle.std.specs.List.{list_all};
 ghost use Rattle.disks.specs.Disks.{all_zero, one};
 ghost use Rattle.packets.specs.Codecs.{Gives, Puts};
 ghost use Rattle.packets.specs.Formats.{Sectors, mask_of, held_of, sector_at, sectors_at, block};
@@ -37,7 +38,8 @@ fn bit(sector: &[u8; SECTOR_BYTES]) -> u16
 }
 
 fn put_held(sectors: &[[u8; SECTOR_BYTES]], out: &mut Vec<u8>) -> Result<(), AllocError>
-    ensures { OnOk result (out.new.items ≡ out.old.items ++ held_of sectors.now) }
+    ensures done { OnOk result (out.new.items ≡ out.old.items ++ held_of sectors.now) }
+    ensures full { T (list_all (λ s. length s == 512) sectors.now) }
 {
     for sector in sectors {
         if !is_blank(sector) {
