@@ -13,9 +13,9 @@ use Rattle.copies.specs.Service.{Stamped}
 use Rattle.copies.specs.Messages.{Item, Bundle, Reply, Session, Recovery, level, recovers, Agreeing, Status, Want}
 use Rattle.packets.specs.declared.fault.Fault.{Fault}
 use Rattle.packets.specs.declared.fault.Fault.TheVariants.{Range}
-use Rattle.packets.specs.Codecs.{◌>>=◌, Codec, Sound, SoundKinds, SoundWhole, number, number_at, text_at, ◌then◌, shaped, listed, exactly, frame_at, empty, on_either, only, or_kind, of_kinds}
-use Rattle.packets.specs.Formats.{Bytes, CallItem, CallBundle, AnswerReply, AnswerSession, CallProposal, CallStatus, CallAgreeing, Sectors, StampedBlock, framed, item, reply, bundle, session, flag_of, flag, proposed, proposal, status, span_of, recovery, agreeing, want, block, stamped, head, rest, PartEnd, more_from, with_rest, end_of, part_end, PartSaid, part, Said, bundled, replied, told, asked, given, SaidOf, said_of, said, message}
-use Rattle.packets.proofs.Sounds.{bind_ok, guard_ok, ok_is, rest_bytes, number_sound, text_back, text_takes, then_sound, shaped_sound, listed_sound, exactly_sound, empty_sound, only_sound, or_kind_sound, of_kinds_sound, whole_sound}
+use Rattle.packets.specs.Codecs.{◌>>=◌, Codec, Sound, SoundKinds, SoundWhole, number, number_at, text_at, ◌then◌, constant, shaped, listed, exactly, frame_at, empty, on_either, only, or_kind, of_kinds}
+use Rattle.packets.specs.Formats.{Bytes, CallItem, CallBundle, AnswerReply, AnswerSession, CallProposal, CallStatus, CallAgreeing, Sectors, StampedBlock, framed, item, reply, bundle, session, flag_of, flag, proposed, proposal, status, span_of, recovery, agreeing, want, block, stamped, head, rest, PartEnd, more_from, with_rest, end_of, part_end, PartSaid, part, Said, bundled, replied, told, asked, given, SaidOf, said_of, said, message, Identity, mark, identity}
+use Rattle.packets.proofs.Sounds.{bind_ok, guard_ok, ok_is, rest_bytes, number_sound, text_back, text_takes, then_sound, shaped_sound, listed_sound, exactly_sound, empty_sound, constant_sound, only_sound, or_kind_sound, of_kinds_sound, whole_sound}
 use Rattle.packets.proofs.Blocks.{block_sound}
 
 -- ---- frames
@@ -237,3 +237,12 @@ sessions = whole_sound session session_sound
 
 pub rests : SoundWhole rest
 rests = whole_sound rest rest_sound
+
+identity_sound : Sound identity
+unfolding identity
+identity_sound =
+    shaped_sound {B = Identity} (λ p. record { house = p.1.0; houses = p.1.1.0; incarnation = p.1.1.1 }) (λ i. (tt, (i.house, (i.houses, i.incarnation)))) (constant 8 mark then number 8 then number 8 then number 8) (λ y. refl) (λ x. refl)
+    (then_sound (constant 8 mark) (number 8 then number 8 then number 8) (constant_sound 8 mark (omega arith)) (then_sound (number 8) (number 8 then number 8) (number_sound 8) span_sound))
+
+pub identities : SoundWhole identity
+identities = whole_sound identity identity_sound

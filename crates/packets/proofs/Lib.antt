@@ -5,3 +5,5 @@ pub mod Tables
 pub mod Blocks
 pub mod Puts
 pub mod Formats
+pub mod OnSectors
+pub mod Room

@@ -10,7 +10,7 @@ use Rattle.octets.proofs.Numbers.{length-bytes_of, big-bytes_of, both, join, fir
 use Rattle.octets.proofs.Fields.{bytes-front, front_below}
 use Rattle.packets.specs.declared.fault.Fault.{Fault}
 use Rattle.packets.specs.declared.fault.Fault.TheVariants.{Short, Range, Left}
-use Rattle.packets.specs.Codecs.{◌>>=◌, Codec, Sound, number, number_at, text_at, ◌then◌, shaped, many, many_at, listed, exactly, empty, Kinds, SoundKinds, only, or_kind, of_kinds, whole, SoundWhole}
+use Rattle.packets.specs.Codecs.{◌>>=◌, Codec, Sound, number, number_at, text_at, ◌then◌, shaped, many, many_at, listed, exactly, empty, constant, Kinds, SoundKinds, only, or_kind, of_kinds, whole, SoundWhole}
 
 -- the value of a step that did not fail
 pub bind_ok : {A B : Type 0} (r : Result A Fault) (f : A → Result B Fault) (y : B) → (r >>= f) ≡ Ok y → (x : A) × (r ≡ Ok x) × (f x ≡ Ok y)
@@ -168,6 +168,17 @@ module _ {A : Type 0} (c : Codec A) (s : Sound c) where
 
 pub empty_sound : Sound empty
 empty_sound = record { back = λ u rest h. refl; spelling = λ bs u rest h e. (ap (λ (x : Unit {0} × List ℕ). x.1) (sym (ok_is (tt, bs) (u, rest) e)), tt) }
+
+pub constant_sound : (w k : ℕ) → k < 256 ^ w → Sound (constant w k)
+constant_sound w k small = record {
+  back = λ u rest h. let same : eqb k k ≡ true = grind (arith, nat_tests) in rw ((number_sound w).back k rest (lt→ltb _ _ small), same) refl;
+  spelling = λ bs u rest h e.
+    let a = bind_ok (number_at w bs) (λ n. cond (eqb n.0 k) (Ok (tt, n.1)) (Err Range)) (u, rest) e in
+    let g = test_ok (eqb a.0.0 k) Range (done {A = Unit {0} × List ℕ} (tt, a.0.1)) (u, rest) a.2 in
+    let first = (number_sound w).spelling bs a.0.0 a.0.1 h a.1 in
+    let same : a.0.1 ≡ rest = ap (λ (x : Unit {0} × List ℕ). x.1) (ok_is (tt, a.0.1) (u, rest) g.1) in
+    (ap (λ (k' : ℕ). bytes_of w k' ++ rest) (sym (eqb→eq a.0.0 k g.0)) ∙ ap (λ (xs : List ℕ). bytes_of w a.0.0 ++ xs) (sym same) ∙ first.0, tt);
+}
 
 pub only_sound : {A : Type 0} (k : ℕ) (c : Codec A) → k < 256 → Sound c → SoundKinds (only k c)
 only_sound k c small s = record {

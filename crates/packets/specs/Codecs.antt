@@ -40,6 +40,10 @@ number w = record { bytes = bytes_of w; read = number_at w; fits = λ n. nat_lt 
 abbrev pub text_at : ℕ → List ℕ → Result (List ℕ × List ℕ) Fault
 text_at n bs = cond (nat_lt (length bs) n) (Err Short) (Ok (take n bs, drop n bs))
 
+-- a number that must be this one
+abbrev pub constant : (width : ℕ) → ℕ → Codec (Unit {0})
+constant w k = record { bytes = λ u. bytes_of w k; read = λ bs. number_at w bs >>= λ n. cond (n.0 == k) (Ok (tt, n.1)) (Err Range); fits = λ u. true }
+
 -- one behind the other
 infixr 20 ◌then◌
 abbrev pub ◌then◌ : {A B : Type 0} → Codec A → Codec B → Codec (A × B)

@@ -14,7 +14,7 @@ use Rattle.copies.specs.Service.{Stamped}
 use Rattle.copies.specs.Messages.{Item, Bundle, Reply, Session, Recovery, level, recovers, Agreeing, Status, Want}
 use Rattle.packets.specs.declared.fault.Fault.{Fault}
 use Rattle.packets.specs.declared.fault.Fault.TheVariants.{Range}
-use Rattle.packets.specs.Codecs.{◌>>=◌, Codec, number, number_at, text_at, ◌then◌, shaped, listed, exactly, frame_at, empty, on_either, only, or_kind, of_kinds}
+use Rattle.packets.specs.Codecs.{◌>>=◌, Codec, number, number_at, text_at, ◌then◌, constant, shaped, listed, exactly, frame_at, empty, on_either, only, or_kind, of_kinds}
 
 abbrev pub Bytes : Type 0
 Bytes = List ℕ
@@ -204,3 +204,19 @@ said = on_either bundled (on_either replied (on_either told (on_either asked giv
 -- 1 a bundle, 2 replies, 3 a status, 4 a want, 5 a part
 unfoldable pub message : Codec Said
 message = shaped said said_of (of_kinds (or_kind 1 bundle (or_kind 2 session (or_kind 3 status (or_kind 4 want (only 5 part))))))
+
+-- WHO A HOUSE IS
+-- how often it has come up is its incarnation
+pub record Identity : Type 0 where
+  pub house : ℕ
+  pub houses : ℕ
+  pub incarnation : ℕ
+
+-- the mark of a house's tables: `kindself`
+abbrev pub mark : ℕ
+mark = 7739838812324719718
+
+-- the mark, house, how many houses, incarnation
+unfoldable pub identity : Codec Identity
+identity =
+    shaped (λ p. record { house = p.1.0; houses = p.1.1.0; incarnation = p.1.1.1 }) (λ i. (tt, (i.house, (i.houses, i.incarnation)))) (constant 8 mark then number 8 then number 8 then number 8)

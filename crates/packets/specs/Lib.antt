@@ -1,3 +1,4 @@
 pub mod Codecs
 pub mod Formats
 pub mod Seen
+pub mod Areas

@@ -22,7 +22,8 @@ use Rattle.copies.specs.declared.agreeing.Proposal.{Proposal as ProposalHad}
 use Rattle.copies.specs.declared.agreeing.Agreeing.{Agreeing as AgreeingHad}
 use Rattle.packets.specs.declared.block.Block.{Block}
 use Rattle.packets.specs.declared.rest.Rest.{Rest}
-use Rattle.packets.specs.Formats.{CallItem, CallBundle, AnswerReply, AnswerSession, CallProposal, CallStatus, CallAgreeing, Sectors, StampedBlock, PartEnd, more_from, with_rest, PartSaid, Said, bundled, replied, told, asked, given}
+use Rattle.packets.specs.declared.identity.Identity.{Identity as IdentityHad}
+use Rattle.packets.specs.Formats.{CallItem, CallBundle, AnswerReply, AnswerSession, CallProposal, CallStatus, CallAgreeing, Sectors, StampedBlock, PartEnd, more_from, with_rest, PartSaid, Said, bundled, replied, told, asked, given, Identity}
 
 abbrev pub see_item : ItemHad (Vec ℕ) → CallItem
 see_item i = record { id = i.id.0; call = vec_items i.call }
@@ -93,3 +94,6 @@ see_message (messages.Replies s) = replied (see_session s)
 see_message (messages.Status x) = told (see_status x)
 see_message (messages.Want w) = asked (the_want w)
 see_message (messages.Part x) = given (see_part x)
+
+abbrev pub see_identity : IdentityHad → Identity
+see_identity i = record { house = i.house.0; houses = i.houses; incarnation = i.incarnation }

@@ -1,11 +1,15 @@
 // What houses say to each other, and what a copy stores, as bytes, high byte first.
 #![tactic(auto)]
 
+pub mod area;
+pub mod areas;
 pub mod block;
 pub mod bundle;
 pub mod bytes;
 pub mod fault;
 mod frame;
+pub mod identity;
+pub mod lay;
 mod list;
 pub mod number;
 pub mod packet;
@@ -14,4 +18,5 @@ pub mod rest;
 pub mod sectors;
 pub mod sessions;
 pub mod status;
+pub mod stored;
 pub mod whole;

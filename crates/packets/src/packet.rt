@@ -1,6 +1,6 @@
 // A message as bytes, by its kind.
 ghost use Rattle.std.specs.Prelude.{◌≡◌};
-ghost use Rattle.packets.specs.Codecs.{Gives, Puts};
+ghost use Rattle.packets.specs.Codecs.{Gives, Puts, SoundWhole, whole};
 ghost use Rattle.packets.specs.Formats.{message, Said};
 ghost use Rattle.packets.specs.Seen.{see_message};
 
@@ -8,6 +8,7 @@ use crate::block::Block;
 use crate::bytes::Bytes;
 use crate::fault::*;
 use crate::rest::Rest;
+use crate::whole::decode;
 use copies::message::*;
 use std::alloc::Global;
 
@@ -84,4 +85,12 @@ impl Bytes for Message<Rest, Block, Vec<u8>, Vec<u8>> {
             _ => Err(Unread::Fault(Fault::Range)),
         }
     }
+}
+
+#[tactic(auto, using(crate::proofs::Formats::messages))]
+pub fn decode_message(heap: Global, bytes: &[u8]) -> Result<Packet, Unread>
+    ensures value { Gives see_message result (whole message bytes.now) }
+    ensures sound { SoundWhole message }
+{
+    decode(heap, bytes)
 }

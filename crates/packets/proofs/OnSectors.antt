@@ -1,0 +1,78 @@
+-- Bytes that were laid on sectors are found again: the sectors put together are the bytes and zeros behind them.
+use Rattle.std.proofs.Common.{◌≡◌, ℕ, zero, suc, ◌-◌, ◌+◌, ◌*◌, ◌/◌, ◌^◌, ◌≤◌, ◌<◌, Bool, true, false, cond, T, eqb, List, [], ◌∷◌, ◌++◌, length, take, drop, min, Result, Ok, Err, refl, sym, ap, ◌∙◌, subst, append_assoc, append-nil, arith, length-append, length-drop, length-take, take-append-drop, lt→ltb}
+use Rattle.std.specs.List.{flat_map, list_all}
+use Rattle.std.proofs.lemmas.Grind.{flat_map-append}
+use Rattle.std.proofs.lemmas.List.{take_all, drop_all}
+use Rattle.disks.specs.Device.{zeros}
+use Rattle.octets.specs.Numbers.{bytes_of}
+use Rattle.octets.proofs.Numbers.{length-bytes_of}
+use Rattle.packets.specs.Codecs.{◌>>=◌, number_at, text_at}
+use Rattle.packets.specs.Formats.{Bytes, Sectors}
+use Rattle.packets.specs.Areas.{sectors_for, padded, cut, with_length, to_sectors, from_sectors, SectorsSound}
+use Rattle.packets.proofs.Blocks.{length-zeros}
+use Rattle.packets.proofs.Sounds.{number_sound, text_back}
+
+drop-zeros : (n k : ℕ) → drop k (zeros n) ≡ zeros (n - k)
+unfolding zeros
+drop-zeros n zero = ap zeros (omega arith)
+drop-zeros zero (suc k) = refl
+drop-zeros (suc n) (suc k) = drop-zeros n k ∙ ap zeros (omega arith)
+
+long : (bs : Bytes) → length (padded (take 512 bs)) ≡ 512
+long bs = rw length-append (omega (arith, length-take 512 bs, length-zeros (512 - length (take 512 bs))))
+
+cut_whole : (n : ℕ) (bs : Bytes) → T (list_all (λ (s : Bytes). eqb (length s) 512) (cut n bs))
+unfolding cut
+cut_whole zero bs = tt
+cut_whole (suc n) bs = let e : eqb (length (padded (take 512 bs))) 512 ≡ true = rw (long bs) refl in rw e (cut_whole n (drop 512 bs))
+
+cut_count : (n : ℕ) (bs : Bytes) → length (cut n bs) ≡ n
+unfolding cut
+cut_count zero bs = refl
+cut_count (suc n) bs = ap suc (cut_count n (drop 512 bs))
+
+-- put together again, with zeros behind
+cut_joined : (n : ℕ) (bs : Bytes) → length bs ≤ 512 * n → (k : ℕ) × (flat_map (λ (s : Bytes). s) (cut n bs) ≡ bs ++ zeros k)
+unfolding cut zeros
+cut_joined zero [] h = (0, refl)
+cut_joined zero (b ∷ bs) h = absurd (omega arith)
+cut_joined (suc n) bs h =
+    let others = cut_joined n (drop 512 bs) (omega (arith, length-drop 512 bs)) in
+    go others
+  where
+    go : (k : ℕ) × (flat_map (λ (s : Bytes). s) (cut n (drop 512 bs)) ≡ drop 512 bs ++ zeros k) → (k : ℕ) × (flat_map (λ (s : Bytes). s) (cut (suc n) bs) ≡ bs ++ zeros k)
+    go (k, e) = ?
+
+sector_back : (bs : Bytes) (more : Sectors) → length bs < 2 ^ 64 → from_sectors (to_sectors bs ++ more) ≡ Ok bs
+sector_back bs more small =
+    let whole = with_length bs in
+    let size = length-append (bytes_of 8 (length bs)) bs in
+    let fits : length whole ≤ 512 * sectors_for (length whole) = omega arith in
+    let c = cut_joined (sectors_for (length whole)) whole fits in
+    let all : flat_map (λ (s : Bytes). s) (to_sectors bs ++ more) ≡ bytes_of 8 (length bs) ++ (bs ++ (zeros c.0 ++ flat_map (λ (s : Bytes). s) more)) =
+      flat_map-append (λ (s : Bytes). s) (to_sectors bs) more ∙ ap (λ (xs : Bytes). xs ++ flat_map (λ (s : Bytes). s) more) c.1 ∙ append_assoc whole (zeros c.0) (flat_map (λ (s : Bytes). s) more)
+      ∙ append_assoc (bytes_of 8 (length bs)) bs (zeros c.0 ++ flat_map (λ (s : Bytes). s) more) in
+    rw (all, (number_sound 8).back (length bs) (bs ++ (zeros c.0 ++ flat_map (λ (s : Bytes). s) more)) (lt→ltb _ _ small), text_back bs (zeros c.0 ++ flat_map (λ (s : Bytes). s) more) (length bs) refl) refl
+
+pub sectors_sound : SectorsSound
+sectors_sound = record {
+  back = sector_back;
+  whole = λ bs. cut_whole (sectors_for (length (with_length bs))) (with_length bs);
+  count = λ bs. cut_count (sectors_for (length (with_length bs))) (with_length bs) ∙ ap sectors_for (length-append (bytes_of 8 (length bs)) bs ∙ omega (arith, length-bytes_of 8 (length bs)));
+}
+
+-- the first sector, as it is written over a blank one
+pub padded_is : (bs : Bytes) (n : ℕ) → n ≡ min (length bs) 512 → take n bs ++ drop n (zeros 512) ≡ padded (take 512 bs)
+padded_is bs n e = ?
+
+-- ---- cutting, one sector after the other
+
+pub cut_on : (front : Sectors) (count i : ℕ) (bs : Bytes) (total : Sectors) → i < count → front ++ cut (count - i) bs ≡ total → (front ++ padded (take 512 bs) ∷ []) ++ cut (count - (i + 1)) (drop 512 bs) ≡ total
+unfolding cut
+cut_on front count i bs total lt e =
+    let k : count - i ≡ suc (count - (i + 1)) = omega arith in
+    append_assoc front (padded (take 512 bs) ∷ []) (cut (count - (i + 1)) (drop 512 bs)) ∙ (rw k at e)
+
+pub cut_done : (front : Sectors) (count i : ℕ) (bs : Bytes) (total : Sectors) → count ≤ i → front ++ cut (count - i) bs ≡ total → front ≡ total
+unfolding cut
+cut_done front count i bs total le e = let k : count - i ≡ 0 = omega arith in sym (append-nil front) ∙ (rw k at e)
