@@ -85,12 +85,12 @@ all_full (s ∷ ss) h =
 
 -- ---- a block is read as it was put
 
-are_zeros : (n : ℕ) → all_zero (zeros n) ≡ true
+pub are_zeros : (n : ℕ) → all_zero (zeros n) ≡ true
 unfolding all_zero zeros
 are_zeros zero = refl
 are_zeros (suc n) = are_zeros n
 
-length-zeros : (n : ℕ) → length (zeros n) ≡ n
+pub length-zeros : (n : ℕ) → length (zeros n) ≡ n
 unfolding zeros
 length-zeros zero = refl
 length-zeros (suc n) = ap suc (length-zeros n)

@@ -18,18 +18,18 @@ pub const IDENTITY: Area = Area {
     count: 1,
 };
 
-// What it stores of the agreement. A proposal of 49 bundles of 8 writes makes 216,482 bytes, with the rest and the length 216,541.
+// What it stores of the agreement. With a proposal of 49 bundles of 8 writes it has 216,484 bytes, and takes 423 sectors.
 pub const AGREEING: Area = Area {
     first: 6_401,
     count: 430,
 };
 
-// The sessions begin here, one behind the other. Eight sectors that were read make 4,217 bytes, with the length 4,225.
+// The sessions begin here, one behind the other. One with the replies of 8 reads has 4,217 bytes, and takes 9 sectors.
 const SESSIONS: u64 = 6_831;
 
 const SESSION_SECTORS: u64 = 10;
 
-// Next number, weight and the heads of 4,096 volumes: 131,090 bytes, with the length 131,098.
+// Next number, weight and heads. With those of 4,096 volumes it has 131,090 bytes, and takes 257 sectors.
 pub const REST: Area = Area {
     first: 7_321,
     count: 257,

@@ -23,7 +23,6 @@ pub fn sectors_for(length: usize) -> usize
 }
 
 // The first of the sectors that bytes take.
-#[tactic(auto, using(crate::proofs::OnSectors::padded_is))]
 fn first_sector(bytes: &[u8]) -> [u8; SECTOR_BYTES]
     ensures { result ≡ padded (take 512 bytes.now) }
 {
@@ -34,6 +33,7 @@ fn first_sector(bytes: &[u8]) -> [u8; SECTOR_BYTES]
 }
 
 // And the bytes that are left for others.
+#[tactic(auto, using(crate::proofs::OnSectors::others_are))]
 fn other_sectors(bytes: &[u8]) -> &[u8]
     ensures { result.now ≡ drop 512 bytes.now }
 {

@@ -20,3 +20,6 @@ pub mod sessions;
 pub mod status;
 pub mod stored;
 pub mod whole;
+
+#[cfg(test)]
+mod tests;

@@ -55,7 +55,7 @@ pub fn decode_identity(heap: Global, bytes: &[u8]) -> Result<Identity, Unread>
     ensures value { Gives see_identity result (whole identity bytes.now) }
     ensures sound { SoundWhole identity }
 {
-    decode(heap, bytes)
+    decode::<Identity>(heap, bytes)
 }
 
 #[tactic(auto, using(crate::proofs::Formats::agreeings))]
@@ -63,7 +63,7 @@ pub fn decode_agreeing(heap: Global, bytes: &[u8]) -> Result<Agreeing<Vec<u8>>, 
     ensures value { Gives see_agreeing result (whole agreeing bytes.now) }
     ensures sound { SoundWhole agreeing }
 {
-    decode(heap, bytes)
+    decode::<Agreeing<Vec<u8>>>(heap, bytes)
 }
 
 #[tactic(auto, using(crate::proofs::Formats::sessions))]
@@ -71,7 +71,7 @@ pub fn decode_session(heap: Global, bytes: &[u8]) -> Result<Session<Vec<u8>>, Un
     ensures value { Gives see_session result (whole session bytes.now) }
     ensures sound { SoundWhole session }
 {
-    decode(heap, bytes)
+    decode::<Session<Vec<u8>>>(heap, bytes)
 }
 
 #[tactic(auto, using(crate::proofs::Formats::rests))]
@@ -79,5 +79,5 @@ pub fn decode_rest(heap: Global, bytes: &[u8]) -> Result<Rest, Unread>
     ensures value { Gives see_rest result (whole rest bytes.now) }
     ensures sound { SoundWhole rest }
 {
-    decode(heap, bytes)
+    decode::<Rest>(heap, bytes)
 }
