@@ -177,14 +177,14 @@ pub block_sound : Sound block
 unfolding block
 block_sound = record {
   back = λ ss more h.
-    let k = both (eqb (length ss) 8) (list_all (λ (s : Bytes). eqb (length s) 512) ss) h in
-    let eight : length ss ≡ 8 = eqb→eq (length ss) 8 k.0 in
-    let small : mask_of ss < 256 = subst (λ (n : ℕ). mask_of ss < 2 ^ n) eight (mask_small ss) in
-    rw (append_assoc (bytes_of 1 (mask_of ss)) (held_of ss) more, (number_sound 1).back (mask_of ss) (held_of ss ++ more) (lt→ltb _ _ small)) (subst (λ (n : ℕ). sectors_at n (mask_of ss) (held_of ss ++ more) ≡ Ok (ss, more)) eight (sectors_back ss more k.1));
+      let k = both (eqb (length ss) 8) (list_all (λ (s : Bytes). eqb (length s) 512) ss) h in
+      let eight : length ss ≡ 8 = eqb→eq (length ss) 8 k.0 in
+      let small : mask_of ss < 256 = subst (λ (n : ℕ). mask_of ss < 2 ^ n) eight (mask_small ss) in
+      rw (append_assoc (bytes_of 1 (mask_of ss)) (held_of ss) more, (number_sound 1).back (mask_of ss) (held_of ss ++ more) (lt→ltb _ _ small)) (subst (λ (n : ℕ). sectors_at n (mask_of ss) (held_of ss ++ more) ≡ Ok (ss, more)) eight (sectors_back ss more k.1));
   spelling = λ bs ss more h e.
-    let a = bind_ok (number_at 1 bs) (λ m. sectors_at 8 m.0 m.1) (ss, more) e in
-    let first = (number_sound 1).spelling bs a.0.0 a.0.1 h a.1 in
-    let others = sectors_take 8 a.0.0 a.0.1 ss more (ltb→lt a.0.0 256 first.1) a.2 in
-    let eight : eqb (length ss) 8 ≡ true = rw others.2 refl in
-    (append_assoc (bytes_of 1 (mask_of ss)) (held_of ss) more ∙ ap (λ (xs : Bytes). bytes_of 1 (mask_of ss) ++ xs) others.0 ∙ ap (λ (k : ℕ). bytes_of 1 k ++ a.0.1) others.1 ∙ first.0, rw eight others.3);
+      let a = bind_ok (number_at 1 bs) (λ m. sectors_at 8 m.0 m.1) (ss, more) e in
+      let first = (number_sound 1).spelling bs a.0.0 a.0.1 h a.1 in
+      let others = sectors_take 8 a.0.0 a.0.1 ss more (ltb→lt a.0.0 256 first.1) a.2 in
+      let eight : eqb (length ss) 8 ≡ true = rw others.2 refl in
+      (append_assoc (bytes_of 1 (mask_of ss)) (held_of ss) more ∙ ap (λ (xs : Bytes). bytes_of 1 (mask_of ss) ++ xs) others.0 ∙ ap (λ (k : ℕ). bytes_of 1 k ++ a.0.1) others.1 ∙ first.0, rw eight others.3);
 }

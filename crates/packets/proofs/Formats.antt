@@ -39,24 +39,32 @@ framed_sound : (most : ℕ) → most < 65536 → Sound (framed most)
 unfolding frame_at
 framed_sound most small = record {
   back = λ p more h.
-    let k = both (ltb p.0 18446744073709551616) (leb (length p.1) most) h in
-    let within : length p.1 ≤ most = at_most (length p.1) most k.1 in
-    let size : (8 + length p.1) - 8 ≡ length p.1 = omega arith in
-    rw (append_assoc (bytes_of 4 (8 + length p.1)) (bytes_of 8 p.0 ++ p.1) more, append_assoc (bytes_of 8 p.0) p.1 more, (number_sound 4).back (8 + length p.1) (bytes_of 8 p.0 ++ (p.1 ++ more)) (lt→ltb _ _ (omega arith)),
-      is_range most (8 + length p.1) (omega arith) (omega arith), (number_sound 8).back p.0 (p.1 ++ more) k.0, size, text_back p.1 more (length p.1) refl) refl;
+      let k = both (ltb p.0 18446744073709551616) (leb (length p.1) most) h in
+      let within : length p.1 ≤ most = at_most (length p.1) most k.1 in
+      let size : (8 + length p.1) - 8 ≡ length p.1 = omega arith in
+      rw (
+        append_assoc (bytes_of 4 (8 + length p.1)) (bytes_of 8 p.0 ++ p.1) more,
+        append_assoc (bytes_of 8 p.0) p.1 more,
+        (number_sound 4).back (8 + length p.1) (bytes_of 8 p.0 ++ (p.1 ++ more)) (lt→ltb _ _ (omega arith)),
+        is_range most (8 + length p.1) (omega arith) (omega arith),
+        (number_sound 8).back p.0 (p.1 ++ more) k.0,
+        size,
+        text_back p.1 more (length p.1) refl,
+      ) refl;
   spelling = λ bs p more h e.
-    let a = bind_ok (number_at 4 bs) (λ z. cond (ltb z.0 8 || ltb (8 + most) z.0) (Err Range) (number_at 8 z.1 >>= λ n. text_at (z.0 - 8) n.1 >>= λ b. Ok ((n.0, b.0), b.1))) (p, more) e in
-    let g = guard_ok (ltb a.0.0 8 || ltb (8 + most) a.0.0) Range (number_at 8 a.0.1 >>= λ n. text_at (a.0.0 - 8) n.1 >>= λ b. Ok ((n.0, b.0), b.1)) (p, more) a.2 in
-    let b = bind_ok (number_at 8 a.0.1) (λ n. text_at (a.0.0 - 8) n.1 >>= λ t. Ok ((n.0, t.0), t.1)) (p, more) g.1 in
-    let c = bind_ok (text_at (a.0.0 - 8) b.0.1) (λ t. Ok ((b.0.0, t.0), t.1)) (p, more) b.2 in
-    let first = (number_sound 4).spelling bs a.0.0 a.0.1 h a.1 in
-    let second = (number_sound 8).spelling a.0.1 b.0.0 b.0.1 (rest_bytes (bytes_of 4 a.0.0) a.0.1 bs first.0 h) b.1 in
-    let third = text_takes (a.0.0 - 8) b.0.1 c.0.0 c.0.1 c.1 in
-    let range = in_range most a.0.0 g.0 in
-    let size : 8 + length c.0.0 ≡ a.0.0 = omega (arith, third.1, range.0) in
-    subst (λ (z : (ℕ × Bytes) × Bytes). (frame_bytes z.0.0 z.0.1 ++ z.1 ≡ bs) × T (ltb z.0.0 18446744073709551616 && leb (length z.0.1) most)) (ok_is ((b.0.0, c.0.0), c.0.1) (p, more) c.2)
-    (append_assoc (bytes_of 4 (8 + length c.0.0)) (bytes_of 8 b.0.0 ++ c.0.0) c.0.1 ∙ ap (λ (xs : Bytes). bytes_of 4 (8 + length c.0.0) ++ xs) (append_assoc (bytes_of 8 b.0.0) c.0.0 c.0.1 ∙ ap (λ (xs : Bytes). bytes_of 8 b.0.0 ++ xs) third.0 ∙ second.0) ∙ ap (λ (k : ℕ). bytes_of 4 k ++ a.0.1) size ∙ first.0,
-      join _ _ second.1 (is_most (length c.0.0) most (omega (arith, size, range.1))));
+      let a = bind_ok (number_at 4 bs) (λ z. cond (ltb z.0 8 || ltb (8 + most) z.0) (Err Range) (number_at 8 z.1 >>= λ n. text_at (z.0 - 8) n.1 >>= λ b. Ok ((n.0, b.0), b.1))) (p, more) e in
+      let g = guard_ok (ltb a.0.0 8 || ltb (8 + most) a.0.0) Range (number_at 8 a.0.1 >>= λ n. text_at (a.0.0 - 8) n.1 >>= λ b. Ok ((n.0, b.0), b.1)) (p, more) a.2 in
+      let b = bind_ok (number_at 8 a.0.1) (λ n. text_at (a.0.0 - 8) n.1 >>= λ t. Ok ((n.0, t.0), t.1)) (p, more) g.1 in
+      let c = bind_ok (text_at (a.0.0 - 8) b.0.1) (λ t. Ok ((b.0.0, t.0), t.1)) (p, more) b.2 in
+      let first = (number_sound 4).spelling bs a.0.0 a.0.1 h a.1 in
+      let second = (number_sound 8).spelling a.0.1 b.0.0 b.0.1 (rest_bytes (bytes_of 4 a.0.0) a.0.1 bs first.0 h) b.1 in
+      let third = text_takes (a.0.0 - 8) b.0.1 c.0.0 c.0.1 c.1 in
+      let range = in_range most a.0.0 g.0 in
+      let size : 8 + length c.0.0 ≡ a.0.0 = omega (arith, third.1, range.0) in
+      subst (λ (z : (ℕ × Bytes) × Bytes). (frame_bytes z.0.0 z.0.1 ++ z.1 ≡ bs) × T (ltb z.0.0 18446744073709551616 && leb (length z.0.1) most)) (ok_is ((b.0.0, c.0.0), c.0.1) (p, more) c.2) (
+        append_assoc (bytes_of 4 (8 + length c.0.0)) (bytes_of 8 b.0.0 ++ c.0.0) c.0.1 ∙ ap (λ (xs : Bytes). bytes_of 4 (8 + length c.0.0) ++ xs) (append_assoc (bytes_of 8 b.0.0) c.0.0 c.0.1 ∙ ap (λ (xs : Bytes). bytes_of 8 b.0.0 ++ xs) third.0 ∙ second.0) ∙ ap (λ (k : ℕ). bytes_of 4 k ++ a.0.1) size ∙ first.0,
+        join _ _ second.1 (is_most (length c.0.0) most (omega (arith, size, range.1))),
+      );
 }
 
 -- ---- calls and answers

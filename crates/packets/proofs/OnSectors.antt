@@ -69,8 +69,8 @@ sector_back bs more small =
     let fits : length whole ≤ 512 * sectors_for (length whole) = omega arith in
     let c = cut_joined (sectors_for (length whole)) whole fits in
     let all : flat_map (λ (s : Bytes). s) (to_sectors bs ++ more) ≡ bytes_of 8 (length bs) ++ (bs ++ (zeros c.0 ++ flat_map (λ (s : Bytes). s) more)) =
-      flat_map-append (λ (s : Bytes). s) (to_sectors bs) more ∙ ap (λ (xs : Bytes). xs ++ flat_map (λ (s : Bytes). s) more) c.1 ∙ append_assoc whole (zeros c.0) (flat_map (λ (s : Bytes). s) more)
-      ∙ append_assoc (bytes_of 8 (length bs)) bs (zeros c.0 ++ flat_map (λ (s : Bytes). s) more) in
+    flat_map-append (λ (s : Bytes). s) (to_sectors bs) more ∙ ap (λ (xs : Bytes). xs ++ flat_map (λ (s : Bytes). s) more) c.1 ∙ append_assoc whole (zeros c.0) (flat_map (λ (s : Bytes). s) more)
+    ∙ append_assoc (bytes_of 8 (length bs)) bs (zeros c.0 ++ flat_map (λ (s : Bytes). s) more) in
     rw (all, (number_sound 8).back (length bs) (bs ++ (zeros c.0 ++ flat_map (λ (s : Bytes). s) more)) (lt→ltb _ _ small), text_back bs (zeros c.0 ++ flat_map (λ (s : Bytes). s) more) (length bs) refl) refl
 
 pub sectors_sound : SectorsSound

@@ -43,15 +43,15 @@ rest_bytes xs rest bs e h = behind xs rest (subst (λ (ys : List ℕ). T (all_by
 pub number_sound : (w : ℕ) → Sound (number w)
 number_sound w = record {
   back = λ n rest h.
-    let long : ltb (length (bytes_of w n ++ rest)) w ≡ false = le-ltb _ _ (rw length-append (omega (arith, length-bytes_of w n))) in
-    let fits : n < 256 ^ w = ltb→lt n (256 ^ w) h in
-    let is : big (bytes_of w n) ≡ n = big-bytes_of 0 w n fits ∙ omega arith in
-    rw (long, take_at (bytes_of w n) rest w (length-bytes_of w n), drop_at (bytes_of w n) rest w (length-bytes_of w n), is) refl;
+      let long : ltb (length (bytes_of w n ++ rest)) w ≡ false = le-ltb _ _ (rw length-append (omega (arith, length-bytes_of w n))) in
+      let fits : n < 256 ^ w = ltb→lt n (256 ^ w) h in
+      let is : big (bytes_of w n) ≡ n = big-bytes_of 0 w n fits ∙ omega arith in
+      rw (long, take_at (bytes_of w n) rest w (length-bytes_of w n), drop_at (bytes_of w n) rest w (length-bytes_of w n), is) refl;
   spelling = λ bs n rest h e.
-    let g = guard_ok (ltb (length bs) w) Short (done (big (take w bs), drop w bs)) (n, rest) e in
-    let long : w ≤ length bs = ltb-false (length bs) w g.0 in
-    subst (λ (x : ℕ × List ℕ). (bytes_of w x.0 ++ x.1 ≡ bs) × T (ltb x.0 (256 ^ w))) (ok_is (big (take w bs), drop w bs) (n, rest) g.1)
-    (ap (λ (xs : List ℕ). xs ++ drop w bs) (bytes-front w bs h long) ∙ take-append-drop w bs, lt→ltb _ _ (front_below w bs h long));
+      let g = guard_ok (ltb (length bs) w) Short (done (big (take w bs), drop w bs)) (n, rest) e in
+      let long : w ≤ length bs = ltb-false (length bs) w g.0 in
+      subst (λ (x : ℕ × List ℕ). (bytes_of w x.0 ++ x.1 ≡ bs) × T (ltb x.0 (256 ^ w))) (ok_is (big (take w bs), drop w bs) (n, rest) g.1)
+      (ap (λ (xs : List ℕ). xs ++ drop w bs) (bytes-front w bs h long) ∙ take-append-drop w bs, lt→ltb _ _ (front_below w bs h long));
 }
 
 -- ---- so many bytes
@@ -72,25 +72,25 @@ text_takes n bs xs rest e =
 pub then_sound : {A B : Type 0} (c : Codec A) (d : Codec B) → Sound c → Sound d → Sound (c then d)
 then_sound {A = A} {B = B} c d s t = record {
   back = λ p rest h.
-    let k = both (c.fits p.0) (d.fits p.1) h in
-    rw (append_assoc (c.bytes p.0) (d.bytes p.1) rest, s.back p.0 (d.bytes p.1 ++ rest) k.0, t.back p.1 rest k.1) refl;
+      let k = both (c.fits p.0) (d.fits p.1) h in
+      rw (append_assoc (c.bytes p.0) (d.bytes p.1) rest, s.back p.0 (d.bytes p.1 ++ rest) k.0, t.back p.1 rest k.1) refl;
   spelling = λ bs p rest h e.
-    let a = bind_ok (c.read bs) (λ x. d.read x.1 >>= λ y. Ok ((x.0, y.0), y.1)) (p, rest) e in
-    let b = bind_ok (d.read a.0.1) (λ y. Ok ((a.0.0, y.0), y.1)) (p, rest) a.2 in
-    let first = s.spelling bs a.0.0 a.0.1 h a.1 in
-    let second = t.spelling a.0.1 b.0.0 b.0.1 (rest_bytes (c.bytes a.0.0) a.0.1 bs first.0 h) b.1 in
-    subst (λ (z : (A × B) × List ℕ). ((c.bytes z.0.0 ++ d.bytes z.0.1) ++ z.1 ≡ bs) × T (c.fits z.0.0 && d.fits z.0.1)) (ok_is ((a.0.0, b.0.0), b.0.1) (p, rest) b.2)
-    (append_assoc (c.bytes a.0.0) (d.bytes b.0.0) b.0.1 ∙ ap (λ (xs : List ℕ). c.bytes a.0.0 ++ xs) second.0 ∙ first.0, join _ _ first.1 second.1);
+      let a = bind_ok (c.read bs) (λ x. d.read x.1 >>= λ y. Ok ((x.0, y.0), y.1)) (p, rest) e in
+      let b = bind_ok (d.read a.0.1) (λ y. Ok ((a.0.0, y.0), y.1)) (p, rest) a.2 in
+      let first = s.spelling bs a.0.0 a.0.1 h a.1 in
+      let second = t.spelling a.0.1 b.0.0 b.0.1 (rest_bytes (c.bytes a.0.0) a.0.1 bs first.0 h) b.1 in
+      subst (λ (z : (A × B) × List ℕ). ((c.bytes z.0.0 ++ d.bytes z.0.1) ++ z.1 ≡ bs) × T (c.fits z.0.0 && d.fits z.0.1)) (ok_is ((a.0.0, b.0.0), b.0.1) (p, rest) b.2)
+      (append_assoc (c.bytes a.0.0) (d.bytes b.0.0) b.0.1 ∙ ap (λ (xs : List ℕ). c.bytes a.0.0 ++ xs) second.0 ∙ first.0, join _ _ first.1 second.1);
 }
 
 pub shaped_sound : {A B : Type 0} (to : A → B) (from : B → A) (c : Codec A) → ((y : B) → to (from y) ≡ y) → ((x : A) → from (to x) ≡ x) → Sound c → Sound (shaped to from c)
 shaped_sound {A = A} {B = B} to from c there back_again s = record {
   back = λ y rest h. rw (s.back (from y) rest h) (ap (λ (z : B). done (z, rest)) (there y));
   spelling = λ bs y rest h e.
-    let a = bind_ok (c.read bs) (λ x. Ok (to x.0, x.1)) (y, rest) e in
-    let first = s.spelling bs a.0.0 a.0.1 h a.1 in
-    subst (λ (z : B × List ℕ). (c.bytes (from z.0) ++ z.1 ≡ bs) × T (c.fits (from z.0))) (ok_is (to a.0.0, a.0.1) (y, rest) a.2)
-    (subst (λ (x : A). (c.bytes x ++ a.0.1 ≡ bs) × T (c.fits x)) (sym (back_again a.0.0)) first);
+      let a = bind_ok (c.read bs) (λ x. Ok (to x.0, x.1)) (y, rest) e in
+      let first = s.spelling bs a.0.0 a.0.1 h a.1 in
+      subst (λ (z : B × List ℕ). (c.bytes (from z.0) ++ z.1 ≡ bs) × T (c.fits (from z.0))) (ok_is (to a.0.0, a.0.1) (y, rest) a.2)
+      (subst (λ (x : A). (c.bytes x ++ a.0.1 ≡ bs) × T (c.fits x)) (sym (back_again a.0.0)) first);
 }
 
 -- ---- several
@@ -124,24 +124,24 @@ module _ {A : Type 0} (c : Codec A) (s : Sound c) where
   pub many_sound : (n : ℕ) → Sound (many c n)
   many_sound n = record {
     back = λ xs rest h.
-      let k = both (eqb (length xs) n) (list_all c.fits xs) h in
-      subst (λ (m : ℕ). many_at c m (flat_map c.bytes xs ++ rest) ≡ Ok (xs, rest)) (eqb→eq (length xs) n k.0) (many_back xs rest k.1);
+        let k = both (eqb (length xs) n) (list_all c.fits xs) h in
+        subst (λ (m : ℕ). many_at c m (flat_map c.bytes xs ++ rest) ≡ Ok (xs, rest)) (eqb→eq (length xs) n k.0) (many_back xs rest k.1);
     spelling = λ bs xs rest h e. let t = many_takes n bs xs rest h e in (t.0, join _ _ (same_length (length xs) n t.1) t.2);
   }
 
   pub listed_sound : (w most : ℕ) → most < 256 ^ w → Sound (listed w most c)
   listed_sound w most small = record {
     back = λ xs rest h.
-      let k = both (leb (length xs) most) (list_all c.fits xs) h in
-      let within : length xs ≤ most = at_most (length xs) most k.0 in
-      let within_test : ltb most (length xs) ≡ false = le-ltb _ _ within in
-      rw (append_assoc (bytes_of w (length xs)) (flat_map c.bytes xs) rest, (number_sound w).back (length xs) (flat_map c.bytes xs ++ rest) (lt→ltb _ _ (omega arith)), within_test) (many_back xs rest k.1);
+        let k = both (leb (length xs) most) (list_all c.fits xs) h in
+        let within : length xs ≤ most = at_most (length xs) most k.0 in
+        let within_test : ltb most (length xs) ≡ false = le-ltb _ _ within in
+        rw (append_assoc (bytes_of w (length xs)) (flat_map c.bytes xs) rest, (number_sound w).back (length xs) (flat_map c.bytes xs ++ rest) (lt→ltb _ _ (omega arith)), within_test) (many_back xs rest k.1);
     spelling = λ bs xs rest h e.
-      let a = bind_ok (number_at w bs) (λ n. cond (ltb most n.0) (Err Range) (many_at c n.0 n.1)) (xs, rest) e in
-      let g = guard_ok (ltb most a.0.0) Range (many_at c a.0.0 a.0.1) (xs, rest) a.2 in
-      let first = (number_sound w).spelling bs a.0.0 a.0.1 h a.1 in
-      let others = many_takes a.0.0 a.0.1 xs rest (rest_bytes (bytes_of w a.0.0) a.0.1 bs first.0 h) g.1 in
-      (append_assoc (bytes_of w (length xs)) (flat_map c.bytes xs) rest ∙ ap (λ (ys : List ℕ). bytes_of w (length xs) ++ ys) others.0 ∙ ap (λ (k : ℕ). bytes_of w k ++ a.0.1) others.1 ∙ first.0, join _ _ (is_most (length xs) most (omega (arith, others.1, ltb-false most a.0.0 g.0))) others.2);
+        let a = bind_ok (number_at w bs) (λ n. cond (ltb most n.0) (Err Range) (many_at c n.0 n.1)) (xs, rest) e in
+        let g = guard_ok (ltb most a.0.0) Range (many_at c a.0.0 a.0.1) (xs, rest) a.2 in
+        let first = (number_sound w).spelling bs a.0.0 a.0.1 h a.1 in
+        let others = many_takes a.0.0 a.0.1 xs rest (rest_bytes (bytes_of w a.0.0) a.0.1 bs first.0 h) g.1 in
+        (append_assoc (bytes_of w (length xs)) (flat_map c.bytes xs) rest ∙ ap (λ (ys : List ℕ). bytes_of w (length xs) ++ ys) others.0 ∙ ap (λ (k : ℕ). bytes_of w k ++ a.0.1) others.1 ∙ first.0, join _ _ (is_most (length xs) most (omega (arith, others.1, ltb-false most a.0.0 g.0))) others.2);
   }
     where
       at_most : (n m : ℕ) → T (leb n m) → n ≤ m
@@ -153,15 +153,15 @@ module _ {A : Type 0} (c : Codec A) (s : Sound c) where
   pub exactly_sound : (n : ℕ) → n < 256 → Sound (exactly n c)
   exactly_sound n small = record {
     back = λ xs rest h.
-      let k = both (eqb (length xs) n) (list_all c.fits xs) h in
-      let same : eqb n n ≡ true = grind (arith, nat_tests) in
-      rw (append_assoc (bytes_of 1 n) (flat_map c.bytes xs) rest, (number_sound 1).back n (flat_map c.bytes xs ++ rest) (lt→ltb _ _ small), same) ((many_sound n).back xs rest h);
+        let k = both (eqb (length xs) n) (list_all c.fits xs) h in
+        let same : eqb n n ≡ true = grind (arith, nat_tests) in
+        rw (append_assoc (bytes_of 1 n) (flat_map c.bytes xs) rest, (number_sound 1).back n (flat_map c.bytes xs ++ rest) (lt→ltb _ _ small), same) ((many_sound n).back xs rest h);
     spelling = λ bs xs rest h e.
-      let a = bind_ok (number_at 1 bs) (λ m. cond (eqb m.0 n) (many_at c n m.1) (Err Range)) (xs, rest) e in
-      let g = test_ok (eqb a.0.0 n) Range (many_at c n a.0.1) (xs, rest) a.2 in
-      let first = (number_sound 1).spelling bs a.0.0 a.0.1 h a.1 in
-      let others = (many_sound n).spelling a.0.1 xs rest (rest_bytes (bytes_of 1 a.0.0) a.0.1 bs first.0 h) g.1 in
-      (append_assoc (bytes_of 1 n) (flat_map c.bytes xs) rest ∙ ap (λ (ys : List ℕ). bytes_of 1 n ++ ys) others.0 ∙ ap (λ (k : ℕ). bytes_of 1 k ++ a.0.1) (sym (eqb→eq a.0.0 n g.0)) ∙ first.0, others.1);
+        let a = bind_ok (number_at 1 bs) (λ m. cond (eqb m.0 n) (many_at c n m.1) (Err Range)) (xs, rest) e in
+        let g = test_ok (eqb a.0.0 n) Range (many_at c n a.0.1) (xs, rest) a.2 in
+        let first = (number_sound 1).spelling bs a.0.0 a.0.1 h a.1 in
+        let others = (many_sound n).spelling a.0.1 xs rest (rest_bytes (bytes_of 1 a.0.0) a.0.1 bs first.0 h) g.1 in
+        (append_assoc (bytes_of 1 n) (flat_map c.bytes xs) rest ∙ ap (λ (ys : List ℕ). bytes_of 1 n ++ ys) others.0 ∙ ap (λ (k : ℕ). bytes_of 1 k ++ a.0.1) (sym (eqb→eq a.0.0 n g.0)) ∙ first.0, others.1);
   }
 
 -- ---- kinds
@@ -173,11 +173,11 @@ pub constant_sound : (w k : ℕ) → k < 256 ^ w → Sound (constant w k)
 constant_sound w k small = record {
   back = λ u rest h. let same : eqb k k ≡ true = grind (arith, nat_tests) in rw ((number_sound w).back k rest (lt→ltb _ _ small), same) refl;
   spelling = λ bs u rest h e.
-    let a = bind_ok (number_at w bs) (λ n. cond (eqb n.0 k) (Ok (tt, n.1)) (Err Range)) (u, rest) e in
-    let g = test_ok (eqb a.0.0 k) Range (done {A = Unit {0} × List ℕ} (tt, a.0.1)) (u, rest) a.2 in
-    let first = (number_sound w).spelling bs a.0.0 a.0.1 h a.1 in
-    let same : a.0.1 ≡ rest = ap (λ (x : Unit {0} × List ℕ). x.1) (ok_is (tt, a.0.1) (u, rest) g.1) in
-    (ap (λ (k' : ℕ). bytes_of w k' ++ rest) (sym (eqb→eq a.0.0 k g.0)) ∙ ap (λ (xs : List ℕ). bytes_of w a.0.0 ++ xs) (sym same) ∙ first.0, tt);
+      let a = bind_ok (number_at w bs) (λ n. cond (eqb n.0 k) (Ok (tt, n.1)) (Err Range)) (u, rest) e in
+      let g = test_ok (eqb a.0.0 k) Range (done {A = Unit {0} × List ℕ} (tt, a.0.1)) (u, rest) a.2 in
+      let first = (number_sound w).spelling bs a.0.0 a.0.1 h a.1 in
+      let same : a.0.1 ≡ rest = ap (λ (x : Unit {0} × List ℕ). x.1) (ok_is (tt, a.0.1) (u, rest) g.1) in
+      (ap (λ (k' : ℕ). bytes_of w k' ++ rest) (sym (eqb→eq a.0.0 k g.0)) ∙ ap (λ (xs : List ℕ). bytes_of w a.0.0 ++ xs) (sym same) ∙ first.0, tt);
 }
 
 pub only_sound : {A : Type 0} (k : ℕ) (c : Codec A) → k < 256 → Sound c → SoundKinds (only k c)
@@ -185,9 +185,9 @@ only_sound k c small s = record {
   small = λ x. small;
   back = λ x rest h. let same : eqb k k ≡ true = grind (arith, nat_tests) in rw same (s.back x rest h);
   spelling = λ n bs x rest h e.
-    let g = test_ok (eqb n k) Range (c.read bs) (x, rest) e in
-    let t = s.spelling bs x rest h g.1 in
-    (sym (eqb→eq n k g.0), t.0, t.1);
+      let g = test_ok (eqb n k) Range (c.read bs) (x, rest) e in
+      let t = s.spelling bs x rest h g.1 in
+      (sym (eqb→eq n k g.0), t.0, t.1);
 }
 
 pub or_kind_sound : {A B : Type 0} (k : ℕ) (c : Codec A) (d : Kinds B) → k < 256 → ((y : B) → eqb (d.kind y) k ≡ false) → Sound c → SoundKinds d → SoundKinds (or_kind k c d)
@@ -222,12 +222,12 @@ or_kind_sound {A = A} {B = B} k c d small apart s t = record { small = smalls; b
 pub of_kinds_sound : {A : Type 0} (d : Kinds A) → SoundKinds d → Sound (of_kinds d)
 of_kinds_sound d t = record {
   back = λ x rest h.
-    rw (append_assoc (bytes_of 1 (d.kind x)) (d.body x) rest, (number_sound 1).back (d.kind x) (d.body x ++ rest) (lt→ltb _ _ (t.small x))) (t.back x rest h);
+      rw (append_assoc (bytes_of 1 (d.kind x)) (d.body x) rest, (number_sound 1).back (d.kind x) (d.body x ++ rest) (lt→ltb _ _ (t.small x))) (t.back x rest h);
   spelling = λ bs x rest h e.
-    let a = bind_ok (number_at 1 bs) (λ n. d.read_as n.0 n.1) (x, rest) e in
-    let first = (number_sound 1).spelling bs a.0.0 a.0.1 h a.1 in
-    let second = t.spelling a.0.0 a.0.1 x rest (rest_bytes (bytes_of 1 a.0.0) a.0.1 bs first.0 h) a.2 in
-    (append_assoc (bytes_of 1 (d.kind x)) (d.body x) rest ∙ ap (λ (ys : List ℕ). bytes_of 1 (d.kind x) ++ ys) second.1 ∙ ap (λ (k : ℕ). bytes_of 1 k ++ a.0.1) second.0 ∙ first.0, second.2);
+      let a = bind_ok (number_at 1 bs) (λ n. d.read_as n.0 n.1) (x, rest) e in
+      let first = (number_sound 1).spelling bs a.0.0 a.0.1 h a.1 in
+      let second = t.spelling a.0.0 a.0.1 x rest (rest_bytes (bytes_of 1 a.0.0) a.0.1 bs first.0 h) a.2 in
+      (append_assoc (bytes_of 1 (d.kind x)) (d.body x) rest ∙ ap (λ (ys : List ℕ). bytes_of 1 (d.kind x) ++ ys) second.1 ∙ ap (λ (k : ℕ). bytes_of 1 k ++ a.0.1) second.0 ∙ first.0, second.2);
 }
 
 -- ---- all of the bytes

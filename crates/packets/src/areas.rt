@@ -61,5 +61,4 @@ pub fn areas_promised()
     ensures end { TABLES_END ≡ 16384 }
     ensures apart { AreasApart }
     ensures hold { AreasHold }
-{
-}
+{}

@@ -7,12 +7,7 @@ use crate::bytes::Bytes;
 use crate::fault::*;
 use std::alloc::Global;
 
-pub(crate) fn put_frame(
-    id: u64,
-    body: &[u8],
-    most: u16,
-    out: &mut Vec<u8>,
-) -> Result<(), Unsent>
+pub(crate) fn put_frame(id: u64, body: &[u8], most: u16, out: &mut Vec<u8>) -> Result<(), Unsent>
     ensures { Puts (framed most) (id, body.now) out.old.items out.new.items result }
 {
     if body.len() > most as usize {

@@ -55,10 +55,7 @@ fn cut(bytes: &[u8], heap: Global) -> Result<Vec<[u8; SECTOR_BYTES]>, AllocError
 }
 
 #[tactic(auto, using(crate::proofs::OnSectors::sectors_sound))]
-pub fn to_sectors(
-    bytes: &[u8],
-    heap: Global,
-) -> Result<Vec<[u8; SECTOR_BYTES]>, AllocError>
+pub fn to_sectors(bytes: &[u8], heap: Global) -> Result<Vec<[u8; SECTOR_BYTES]>, AllocError>
     ensures value { IfOk result (λ v. v.items ≡ to_sectors bytes.now) }
     ensures sound { SectorsSound }
 {
@@ -79,10 +76,7 @@ fn joined(sectors: &[[u8; SECTOR_BYTES]], heap: Global) -> Result<Vec<u8>, Alloc
     Ok(all)
 }
 
-pub fn from_sectors(
-    sectors: &[[u8; SECTOR_BYTES]],
-    heap: Global,
-) -> Result<Vec<u8>, Unread>
+pub fn from_sectors(sectors: &[[u8; SECTOR_BYTES]], heap: Global) -> Result<Vec<u8>, Unread>
     ensures { Gives (λ v. v.items) result (from_sectors sectors.now) }
 {
     let all = joined(sectors, heap)?;

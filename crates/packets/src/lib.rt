@@ -19,7 +19,6 @@ pub mod sectors;
 pub mod sessions;
 pub mod status;
 pub mod stored;
-pub mod whole;
-
 #[cfg(test)]
 mod tests;
+pub mod whole;

@@ -33,11 +33,7 @@ pub(crate) fn take_all<T: Bytes + Drop>(
 }
 
 // With a count of one byte.
-pub(crate) fn put_few<T: Bytes>(
-    items: &[T],
-    most: u8,
-    out: &mut Vec<u8>,
-) -> Result<(), Unsent>
+pub(crate) fn put_few<T: Bytes>(items: &[T], most: u8, out: &mut Vec<u8>) -> Result<(), Unsent>
     ensures { Puts (listed 1 most T.codec) (map T.view items.now) out.old.items out.new.items result }
 {
     if items.len() > most as usize {
@@ -63,11 +59,7 @@ pub(crate) fn take_few<T: Bytes + Drop>(
 }
 
 // With a count of two bytes.
-pub(crate) fn put_many<T: Bytes>(
-    items: &[T],
-    most: u16,
-    out: &mut Vec<u8>,
-) -> Result<(), Unsent>
+pub(crate) fn put_many<T: Bytes>(items: &[T], most: u16, out: &mut Vec<u8>) -> Result<(), Unsent>
     ensures { Puts (listed 2 most T.codec) (map T.view items.now) out.old.items out.new.items result }
 {
     if items.len() > most as usize {

@@ -21,9 +21,7 @@ impl Bytes for u8 {
     }
 
     fn take(_heap: Global, bytes: &[u8]) -> Result<(u8, &[u8]), Unread> {
-        let (first, rest) = bytes
-            .split_first()
-            .ok_or(Unread::Fault(Fault::Short))?;
+        let (first, rest) = bytes.split_first().ok_or(Unread::Fault(Fault::Short))?;
         Ok((*first, rest))
     }
 }

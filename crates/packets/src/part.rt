@@ -133,7 +133,11 @@ impl Bytes for Rest {
         let (next, after) = u64::take(heap, bytes)?;
         let (weight, after) = u64::take(heap, after)?;
         let (heads, after) = take_many(heap, MOST_HEADS, after)?;
-        let rest = Rest { next, weight, heads };
+        let rest = Rest {
+            next,
+            weight,
+            heads,
+        };
         Ok((rest, after))
     }
 }

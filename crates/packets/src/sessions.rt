@@ -25,11 +25,7 @@ fn put_unused(out: &mut Vec<u8>) -> Result<(), Unsent>
 }
 
 #[tactic(auto, using(crate::proofs::Tables::shown_is))]
-fn put_of(
-    sessions: &Sessions<Vec<u8>>,
-    house: u64,
-    out: &mut Vec<u8>,
-) -> Result<(), Unsent>
+fn put_of(sessions: &Sessions<Vec<u8>>, house: u64, out: &mut Vec<u8>) -> Result<(), Unsent>
     ensures { Puts session (shown_session (the_sessions sessions.now house)) out.old.items out.new.items result }
 {
     match sessions.of(HouseNumber(house)) {

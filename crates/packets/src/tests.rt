@@ -36,11 +36,17 @@ fn a_want_is_its_numbers(rt: HostRuntime) -> Result<(), Fail> {
 fn other_bytes_are_refused(rt: HostRuntime) {
     let short = decode_message(rt.alloc(), &WANTS[..32]);
     assert!(rt; matches!(short, Err(Unread::Fault(Fault::Short))));
-    let longer = decode_message(rt.alloc(), &[2, 0, 0, 0, 0, 0, 0, 0, 0, 0, 0, 0, 0, 0, 0, 0, 0, 0, 9]);
+    let longer = decode_message(
+        rt.alloc(),
+        &[2, 0, 0, 0, 0, 0, 0, 0, 0, 0, 0, 0, 0, 0, 0, 0, 0, 0, 9],
+    );
     assert!(rt; matches!(longer, Err(Unread::Fault(Fault::Left))));
     let unknown = decode_message(rt.alloc(), &[6]);
     assert!(rt; matches!(unknown, Err(Unread::Fault(Fault::Range))));
-    let crowded = decode_message(rt.alloc(), &[2, 0, 0, 0, 0, 0, 0, 0, 0, 0, 0, 0, 0, 0, 0, 0, 0, 9]);
+    let crowded = decode_message(
+        rt.alloc(),
+        &[2, 0, 0, 0, 0, 0, 0, 0, 0, 0, 0, 0, 0, 0, 0, 0, 0, 9],
+    );
     assert!(rt; matches!(crowded, Err(Unread::Fault(Fault::Range))));
 }
 
@@ -73,8 +79,11 @@ fn a_status_tells_its_proposal(rt: HostRuntime) -> Result<(), Fail> {
     let message: Packet = Message::Status(status);
     let bytes = encode(&message, rt.alloc())?;
     assert_eq!(rt; bytes.len(), 1 + 24 + 1 + 1 + 8 + 1 + 24 + 1 + 14);
-    assert_eq!(rt; bytes[25..27], [1, 1]);
-    assert_eq!(rt; bytes[60..75], [1, 0, 0, 0, 10, 0, 0, 0, 0, 0, 0, 0, 7, 5, 6]);
+    assert_eq!(rt; &bytes[25..27], [1, 1].as_slice());
+    assert_eq!(rt;
+        &bytes[60..75],
+        [1, 0, 0, 0, 10, 0, 0, 0, 0, 0, 0, 0, 7, 5, 6].as_slice()
+    );
     let again = decode_message(rt.alloc(), &bytes)?;
     let twice = encode(&again, rt.alloc())?;
     assert_eq!(rt; twice.as_slice(), bytes.as_slice());
@@ -116,7 +125,10 @@ fn a_part_leaves_out_what_is_zero(rt: HostRuntime) -> Result<(), Fail> {
     };
     let message: Packet = Message::Part(part);
     let bytes = encode(&message, rt.alloc())?;
-    assert_eq!(rt; bytes.len(), 1 + 32 + 24 + 1 + 8 + 2 + 16 + 8 + 1 + 512 + 1 + 18 + 1 + 49 * 17);
+    assert_eq!(rt;
+        bytes.len(),
+        1 + 32 + 24 + 1 + 8 + 2 + 16 + 8 + 1 + 512 + 1 + 18 + 1 + 49 * 17
+    );
     assert_eq!(rt; bytes[92], 1);
     let again = decode_message(rt.alloc(), &bytes)?;
     let twice = encode(&again, rt.alloc())?;

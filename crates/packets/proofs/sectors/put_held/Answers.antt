@@ -8,8 +8,8 @@ pub loop-sector-preserved : goal.loop-sector-preserved
 loop-sector-preserved c =
     elim c.if-not-is_blank.branch [
       | then-not-is_blank+in_ok-extend_from_slice w ↦
-        let e = w.in_ok-extend_from_slice.ensures in
-        ap (λ (v : Vec ℕ). v.items) w.out-is ∙ held_put c.args.sectors.now c.loop-sector.sector-index _ _ _ c.loop-sector-test.true (sym c.is_blank.ensures ∙ w.if-not-is_blank.true) c.loop-sector.invariant e.items
+          let e = w.in_ok-extend_from_slice.ensures in
+          ap (λ (v : Vec ℕ). v.items) w.out-is ∙ held_put c.args.sectors.now c.loop-sector.sector-index _ _ _ c.loop-sector-test.true (sym c.is_blank.ensures ∙ w.if-not-is_blank.true) c.loop-sector.invariant e.items
       | else-not-is_blank w ↦ ap (λ (v : Vec ℕ). v.items) w.out-is ∙ held_skipped c.args.sectors.now c.loop-sector.sector-index _ _ c.loop-sector-test.true (sym c.is_blank.ensures ∙ w.if-not-is_blank.false) c.loop-sector.invariant
     ]
 
