@@ -1,13 +1,13 @@
 -- A block's mask and its sectors, one after the other as loops go, and that they are read as they were put.
-use Rattle.std.proofs.Common.{◌≡◌, ℕ, zero, suc, ◌-◌, ◌+◌, ◌*◌, ◌/◌, ◌%◌, ◌^◌, ◌≤◌, ◌<◌, Bool, true, false, cond, not, ◌&&◌, T, ltb, eqb, List, [], ◌∷◌, ◌++◌, length, take, get_or, Result, Ok, Err, refl, sym, ap, ap₂, ◌∙◌, subst, append_assoc, append-nil, arith, pow-suc, eqb→eq, ltb→lt, lt→ltb}
+use Rattle.std.proofs.Common.{◌≡◌, ℕ, zero, suc, ◌-◌, ◌+◌, ◌*◌, ◌/◌, ◌%◌, ◌^◌, ◌≤◌, ◌<◌, Bool, true, false, cond, not, ◌&&◌, T, eqb, [], ◌∷◌, ◌++◌, length, take, get_or, Result, Ok, Err, refl, sym, ap, ap₂, ◌∙◌, subst, append_assoc, append-nil, arith, pow-suc, eqb→eq, ltb→lt, lt→ltb}
 use Rattle.std.proofs.Math.Nat.{pow-le-pow_right}
 use Rattle.std.proofs.lemmas.List.{take_more}
 use Rattle.std.proofs.lemmas.Bool.Decides.{nat_tests}
 use Rattle.std.specs.List.{list_all}
-use Rattle.disks.specs.Device.{zeros, all_bytes}
+use Rattle.disks.specs.Device.{zeros}
 use Rattle.disks.specs.Disks.{all_zero, one}
 use Rattle.octets.specs.Numbers.{bytes_of}
-use Rattle.octets.proofs.Numbers.{both, join}
+use Rattle.octets.proofs.Numbers.{both}
 use Rattle.packets.specs.declared.fault.Fault.{Fault}
 use Rattle.packets.specs.declared.fault.Fault.TheVariants.{Range}
 use Rattle.packets.specs.declared.fault.Unread.{Unread}
@@ -15,7 +15,7 @@ use Rattle.packets.specs.declared.fault.Unread.TheVariants as unread
 use Rattle.packets.specs.Codecs.{◌>>=◌, Fails, Sound, number_at, text_at}
 use Rattle.packets.specs.Formats.{Bytes, Sectors, mask_of, held_of, sector_at, sectors_at, block}
 use Rattle.packets.proofs.Loops.{with_front, regroup}
-use Rattle.packets.proofs.Sounds.{bind_ok, guard_ok, ok_is, done, rest_bytes, number_sound, text_back, text_takes}
+use Rattle.packets.proofs.Sounds.{bind_ok, guard_ok, ok_is, done, number_sound, text_back, text_takes}
 
 pub pow_eight : (n : ℕ) → n ≤ 8 → 2 ^ n ≤ 256
 pow_eight n h = pow-le-pow_right {n = 2} (omega arith) {i = n} {j = 8} h

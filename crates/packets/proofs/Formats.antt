@@ -1,27 +1,20 @@
 -- Each format is sound, since it is put together of sound ones.
-use Rattle.std.proofs.Common.{◌≡◌, ◌⊎◌, inl, inr, ℕ, zero, suc, ◌+◌, ◌-◌, ◌*◌, ◌^◌, ◌<◌, ◌≤◌, Bool, true, false, cond, ◌&&◌, ◌||◌, T, ltb, leb, eqb, List, [], ◌∷◌, ◌++◌, length, Result, Ok, Err, sym, refl, ap, ◌∙◌, subst, append_assoc, arith, length-append, ltb→lt, lt→ltb, eqb→eq}
-use Rattle.std.proofs.lemmas.Bool.{le-ltb, ltb-false}
+use Rattle.std.proofs.Common.{◌≡◌, ◌⊎◌, inl, inr, ℕ, ◌+◌, ◌-◌, ◌<◌, ◌≤◌, Bool, true, false, cond, ◌&&◌, ◌||◌, T, ltb, leb, eqb, List, ◌++◌, length, Ok, Err, refl, ap, ◌∙◌, subst, append_assoc, arith, lt→ltb}
 use Rattle.std.proofs.lemmas.Bool.Decides.{nat_tests}
-use Rattle.disks.specs.Device.{all_bytes}
 use Rattle.octets.specs.Numbers.{bytes_of}
-use Rattle.octets.proofs.Numbers.{length-bytes_of, both, join}
+use Rattle.octets.proofs.Numbers.{both, join}
 use Rattle.wire.specs.Frames.{frame_bytes}
 use Rattle.volumes.specs.declared.head.Head.{Head}
 use Rattle.volumes.specs.Service.{Service}
-use Rattle.agreement.specs.Copies.{Proposal, nothing, voted}
-use Rattle.copies.specs.Service.{Stamped}
-use Rattle.copies.specs.Messages.{Item, Bundle, Reply, Session, Recovery, level, recovers, Agreeing, Status, Want}
-use Rattle.packets.specs.declared.fault.Fault.{Fault}
+use Rattle.agreement.specs.Copies.{nothing, voted}
+use Rattle.copies.specs.Messages.{Recovery, level, recovers, Want}
 use Rattle.packets.specs.declared.fault.Fault.TheVariants.{Range}
-use Rattle.packets.specs.Codecs.{◌>>=◌, Codec, Sound, SoundKinds, SoundWhole, number, number_at, text_at, ◌then◌, constant, shaped, listed, exactly, frame_at, empty, on_either, only, or_kind, of_kinds}
-use Rattle.packets.specs.Formats.{Bytes, CallItem, CallBundle, AnswerReply, AnswerSession, CallProposal, CallStatus, CallAgreeing, Sectors, StampedBlock, framed, item, reply, bundle, session, flag_of, flag, proposed, proposal, status, span_of, recovery, agreeing, want, block, stamped, head, rest, PartEnd, more_from, with_rest, end_of, part_end, PartSaid, part, Said, bundled, replied, told, asked, given, SaidOf, said_of, said, message, Identity, mark, identity}
+use Rattle.packets.specs.Codecs.{◌>>=◌, Sound, SoundWhole, number, number_at, text_at, ◌then◌, constant, listed, exactly, frame_at, empty, on_either, only, or_kind, of_kinds}
+use Rattle.packets.specs.Formats.{Bytes, CallItem, CallBundle, AnswerReply, AnswerSession, CallProposal, CallStatus, CallAgreeing, StampedBlock, framed, item, reply, bundle, session, flag_of, flag, proposed, proposal, status, span_of, recovery, agreeing, want, block, stamped, head, rest, PartEnd, more_from, with_rest, end_of, part_end, PartSaid, part, Said, bundled, replied, told, asked, given, SaidOf, said_of, said, message, Identity, mark, identity}
 use Rattle.packets.proofs.Sounds.{bind_ok, guard_ok, ok_is, rest_bytes, number_sound, text_back, text_takes, then_sound, shaped_sound, listed_sound, exactly_sound, empty_sound, constant_sound, only_sound, or_kind_sound, of_kinds_sound, whole_sound}
 use Rattle.packets.proofs.Blocks.{block_sound}
 
 -- ---- frames
-
-ranges : ℕ → ℕ → Bool
-ranges most z = ltb z 8 || ltb (8 + most) z
 
 in_range : (most z : ℕ) → (ltb z 8 || ltb (8 + most) z) ≡ false → (8 ≤ z) × (z ≤ 8 + most)
 in_range most z h = grind (arith, nat_tests)
@@ -34,6 +27,11 @@ is_most n m h = grind (arith, nat_tests)
 
 at_most : (n m : ℕ) → T (leb n m) → n ≤ m
 at_most n m h = grind (arith, nat_tests)
+
+framed_together : (z n : ℕ) (body more behind after bs : Bytes) → bytes_of 4 z ++ behind ≡ bs → bytes_of 8 n ++ after ≡ behind → body ++ more ≡ after → 8 + length body ≡ z → frame_bytes n body ++ more ≡ bs
+framed_together z n body more behind after bs e f g size =
+    append_assoc (bytes_of 4 (8 + length body)) (bytes_of 8 n ++ body) more ∙ ap (λ (xs : Bytes). bytes_of 4 (8 + length body) ++ xs) (append_assoc (bytes_of 8 n) body more ∙ ap (λ (xs : Bytes). bytes_of 8 n ++ xs) g ∙ f)
+    ∙ ap (λ (k : ℕ). bytes_of 4 k ++ behind) size ∙ e
 
 framed_sound : (most : ℕ) → most < 65536 → Sound (framed most)
 unfolding frame_at
@@ -62,7 +60,7 @@ framed_sound most small = record {
       let range = in_range most a.0.0 g.0 in
       let size : 8 + length c.0.0 ≡ a.0.0 = omega (arith, third.1, range.0) in
       subst (λ (z : (ℕ × Bytes) × Bytes). (frame_bytes z.0.0 z.0.1 ++ z.1 ≡ bs) × T (ltb z.0.0 18446744073709551616 && leb (length z.0.1) most)) (ok_is ((b.0.0, c.0.0), c.0.1) (p, more) c.2) (
-        append_assoc (bytes_of 4 (8 + length c.0.0)) (bytes_of 8 b.0.0 ++ c.0.0) c.0.1 ∙ ap (λ (xs : Bytes). bytes_of 4 (8 + length c.0.0) ++ xs) (append_assoc (bytes_of 8 b.0.0) c.0.0 c.0.1 ∙ ap (λ (xs : Bytes). bytes_of 8 b.0.0 ++ xs) third.0 ∙ second.0) ∙ ap (λ (k : ℕ). bytes_of 4 k ++ a.0.1) size ∙ first.0,
+        framed_together a.0.0 b.0.0 c.0.0 c.0.1 a.0.1 b.0.1 bs first.0 second.0 third.0 size,
         join _ _ second.1 (is_most (length c.0.0) most (omega (arith, size, range.1))),
       );
 }

@@ -1,12 +1,11 @@
 -- Numbers of one, two and sixteen bytes; the last by halves.
-use Rattle.std.proofs.Common.{◌≡◌, ℕ, zero, suc, ◌+◌, ◌*◌, ◌/◌, ◌%◌, ◌^◌, ◌<◌, ◌≤◌, Bool, true, false, cond, T, ltb, List, [], ◌∷◌, ◌++◌, length, take, drop, Result, Ok, Err, sym, refl, ap, ◌∙◌, subst, append_assoc, arith, length-append, length-drop, length-take, take-append-drop, pow-suc, inl, inr, ap₂, ltb→lt, lt→ltb}
-use Rattle.std.proofs.lemmas.List.{take_at, drop_at, drop-drop, take-take, drop-take}
-use Rattle.std.proofs.lemmas.Bool.{le-ltb, ltb-false, cases_lt}
+use Rattle.std.proofs.Common.{◌≡◌, ℕ, zero, suc, ◌+◌, ◌*◌, ◌/◌, ◌%◌, ◌^◌, ◌<◌, ◌≤◌, Bool, true, false, T, ltb, List, [], ◌∷◌, ◌++◌, length, take, drop, Result, Ok, sym, refl, ap, ◌∙◌, subst, append_assoc, arith, length-drop, length-take, take-append-drop, pow-suc, inl, inr, ap₂, lt→ltb}
+use Rattle.std.proofs.lemmas.List.{drop-drop, take-take, drop-take}
+use Rattle.std.proofs.lemmas.Bool.{le-ltb, cases_lt}
 use Rattle.disks.specs.Device.{all_bytes}
 use Rattle.octets.specs.Numbers.{big, big_from, bytes_of}
 use Rattle.octets.proofs.Numbers.{length-bytes_of, big-bytes_of, bytes_of-big, join, first_byte}
 use Rattle.packets.specs.declared.fault.Fault.{Fault}
-use Rattle.packets.specs.declared.fault.Fault.TheVariants.{Short}
 use Rattle.packets.specs.Codecs.{◌>>=◌, number_at}
 
 is_true : {b : Bool} → T b → b ≡ true

@@ -1,5 +1,5 @@
 -- Bytes that were laid on sectors are found again: the sectors put together are the bytes and zeros behind them.
-use Rattle.std.proofs.Common.{◌≡◌, ℕ, zero, suc, ◌-◌, ◌+◌, ◌*◌, ◌/◌, ◌^◌, ◌≤◌, ◌<◌, Bool, true, false, cond, T, eqb, List, [], ◌∷◌, ◌++◌, length, take, drop, min, Result, Ok, Err, refl, sym, ap, ap₂, inl, inr, ◌∙◌, subst, append_assoc, append-nil, arith, length-append, length-drop, length-take, take-append-drop, lt→ltb}
+use Rattle.std.proofs.Common.{◌≡◌, ℕ, zero, suc, ◌-◌, ◌+◌, ◌*◌, ◌^◌, ◌≤◌, ◌<◌, true, T, eqb, [], ◌∷◌, ◌++◌, length, take, drop, min, Ok, refl, sym, ap, ap₂, inl, inr, ◌∙◌, append_assoc, append-nil, arith, length-append, length-drop, length-take, take-append-drop, lt→ltb}
 use Rattle.std.specs.List.{flat_map, list_all}
 use Rattle.std.proofs.lemmas.Grind.{flat_map-append}
 use Rattle.std.proofs.lemmas.List.{take_all, drop_all}
@@ -7,7 +7,6 @@ use Rattle.std.proofs.lemmas.Bool.{cases_lt}
 use Rattle.disks.specs.Device.{zeros}
 use Rattle.octets.specs.Numbers.{bytes_of}
 use Rattle.octets.proofs.Numbers.{length-bytes_of}
-use Rattle.packets.specs.Codecs.{◌>>=◌, number_at, text_at}
 use Rattle.packets.specs.Formats.{Bytes, Sectors}
 use Rattle.packets.specs.Areas.{sectors_for, padded, cut, with_length, to_sectors, from_sectors, SectorsSound}
 use Rattle.packets.proofs.Blocks.{length-zeros}

@@ -1,10 +1,10 @@
 -- Parts that are put one behind the other.
-use Rattle.std.proofs.Common.{◌≡◌, ℕ, Bool, true, false, ◌&&◌, T, List, ◌++◌, Result, Ok, Err, refl, ap, ◌∙◌, append_assoc}
+use Rattle.std.proofs.Common.{◌≡◌, ℕ, T, List, ◌++◌, Result, Ok, Err, ap, ◌∙◌, append_assoc}
 use Rattle.std.proofs.Math.Bool.{and-false}
 use Rattle.octets.proofs.Numbers.{join}
 use Rattle.packets.specs.declared.fault.Unsent.{Unsent}
 use Rattle.packets.specs.declared.fault.Unsent.TheVariants as unsent
-use Rattle.packets.specs.Codecs.{Codec, ◌then◌, shaped, Unfit, Puts}
+use Rattle.packets.specs.Codecs.{Codec, ◌then◌, Unfit, Puts}
 
 module _ {A B : Type 0} (c : Codec A) (d : Codec B) (x : A) (y : B) where
   unfit_then : (e : Unsent) → Unfit d y e → Unfit (c then d) (x, y) e

@@ -1,13 +1,12 @@
 -- How long what is stored can be, by its parts, and that each area has room for it.
-use Rattle.std.proofs.Common.{◌≡◌, ◌⊎◌, inl, inr, ℕ, zero, suc, ◌-◌, ◌+◌, ◌*◌, ◌/◌, ◌^◌, ◌≤◌, ◌<◌, Bool, true, false, ◌&&◌, T, leb, ltb, List, [], ◌∷◌, ◌++◌, length, max, refl, sym, ap, ◌∙◌, arith, length-append, mul-le-mul_right}
+use Rattle.std.proofs.Common.{◌≡◌, inl, inr, ℕ, suc, ◌+◌, ◌*◌, ◌≤◌, T, leb, ltb, List, [], ◌∷◌, length, refl, arith, length-append, mul-le-mul_right}
 use Rattle.std.specs.List.{flat_map, list_all}
 use Rattle.std.proofs.lemmas.Bool.Decides.{nat_tests}
 use Rattle.octets.specs.Numbers.{bytes_of}
 use Rattle.octets.proofs.Numbers.{length-bytes_of, both}
-use Rattle.wire.specs.Frames.{frame_bytes}
-use Rattle.packets.specs.Codecs.{Codec, number, ◌then◌, constant, listed, Kinds, only, or_kind, of_kinds, empty}
-use Rattle.packets.specs.Formats.{Bytes, framed, item, reply, bundle, session, proposal, recovery, agreeing, head, rest, mark, identity, proposed, span_of}
-use Rattle.packets.specs.Areas.{to_sectors, with_length, sectors_for, AreasApart, AreasHold, FindsRoom, area}
+use Rattle.packets.specs.Codecs.{Codec, number, ◌then◌, constant, listed, only, or_kind, of_kinds, empty}
+use Rattle.packets.specs.Formats.{framed, item, reply, bundle, session, proposal, recovery, agreeing, head, rest, mark, identity, proposed, span_of}
+use Rattle.packets.specs.Areas.{AreasApart, AreasHold, FindsRoom, area}
 use Rattle.packets.proofs.OnSectors.{sectors_sound}
 
 pub areas_apart : AreasApart

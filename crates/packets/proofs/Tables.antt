@@ -1,30 +1,18 @@
 -- What each house has, in the houses' order.
-use Rattle.std.proofs.Common.{◌≡◌, ℕ, zero, suc, ◌-◌, ◌+◌, ◌≤◌, ◌<◌, Bool, true, false, cond, ◌&&◌, T, eqb, ltb, List, [], ◌∷◌, ◌++◌, length, map, refl, sym, ap, ap₂, ◌∙◌, subst, inl, inr, vec_items, append_assoc, append-nil, add-one, arith, length-append}
+use Rattle.std.proofs.Common.{◌≡◌, ℕ, zero, suc, ◌+◌, ◌<◌, Bool, true, false, cond, ◌&&◌, T, eqb, ltb, List, [], ◌∷◌, ◌++◌, length, refl, sym, ap, ap₂, ◌∙◌, subst, inl, inr, append_assoc, append-nil, add-one, arith, length-append}
 use Rattle.std.specs.List.{flat_map, list_all}
 use Rattle.std.proofs.Math.Bool.{and-false}
 use Rattle.std.proofs.lemmas.Bool.{lt-ltb, cases_lt}
 use Rattle.std.proofs.lemmas.Bool.Decides.{nat_tests}
 use Rattle.std.proofs.lemmas.Grind.{flat_map-append}
 use Rattle.std.proofs.lemmas.List.Folds.{list_all-append}
-use Rattle.std.specs.Global.{Vec}
 use Rattle.disks.specs.Cluster.{put}
 use Rattle.octets.proofs.Numbers.{join}
-use Rattle.copies.specs.Messages.{Session}
-use Rattle.copies.specs.declared.message.Session.{Session as SessionHad}
-use Rattle.copies.specs.declared.message.Reply.{Reply as ReplyHad}
-use Rattle.copies.specs.Views.{the_session, the_reply}
 use Rattle.packets.specs.declared.fault.Unsent.{Unsent}
 use Rattle.packets.specs.declared.fault.Unsent.TheVariants as unsent
 use Rattle.packets.specs.Codecs.{Codec, Unfit, exactly}
 use Rattle.packets.specs.Formats.{AnswerSession}
-use Rattle.packets.specs.Seen.{see_session, see_reply, shown_session, shown_reply, table}
-
-maps_on : (rs : List (ReplyHad (Vec ℕ))) → map shown_reply (map the_reply rs) ≡ map see_reply rs
-maps_on [] = refl
-maps_on (r ∷ rs) = ap (λ (xs : _). see_reply r ∷ xs) (maps_on rs)
-
-pub shown_is : (s : SessionHad (Vec ℕ)) → shown_session (the_session s) ≡ see_session s
-shown_is s = ap (λ (rs : _). record { incarnation = s.number.incarnation; counter = s.number.counter; replies = rs }) (maps_on (vec_items s.replies))
+use Rattle.packets.specs.Seen.{table}
 
 -- ---- the first so many
 
@@ -50,13 +38,13 @@ same : (n : ℕ) → eqb n n ≡ true
 same n = grind (arith, nat_tests)
 
 -- a session was put behind those of the houses before
-pub sessions_on : (n : ℕ) (x : Session (Vec ℕ)) (old new : ℕ → Session (Vec ℕ)) → n < 49 → new ≡ cond (ltb n 49) (put n x old) old → table (n + 1) (λ h. shown_session (new h)) ≡ table n (λ h. shown_session (old h)) ++ shown_session x ∷ []
+pub sessions_on : (n : ℕ) (x : AnswerSession) (old new : ℕ → AnswerSession) → n < 49 → new ≡ cond (ltb n 49) (put n x old) old → table (n + 1) new ≡ table n old ++ x ∷ []
 sessions_on n x old new lt e =
     let inside : ltb n 49 ≡ true = lt-ltb n 49 lt in
     let is : new ≡ put n x old = e ∙ rw inside refl in
-    let here : new n ≡ x = ap (λ (f : ℕ → Session (Vec ℕ)). f n) is ∙ rw (same n) refl in
-    let before : (k : ℕ) → k < n → shown_session (new k) ≡ shown_session (old k) = λ k l. ap shown_session (ap (λ (f : ℕ → Session (Vec ℕ)). f k) is ∙ rw (other k n l) refl) in
-    table_more n (λ h. shown_session (new h)) ∙ ap₂ (λ (xs : List AnswerSession) (y : AnswerSession). xs ++ y ∷ []) (table_same n (λ h. shown_session (new h)) (λ h. shown_session (old h)) before) (ap shown_session here)
+    let here : new n ≡ x = ap (λ (f : ℕ → AnswerSession). f n) is ∙ rw (same n) refl in
+    let before : (k : ℕ) → k < n → new k ≡ old k = λ k l. ap (λ (f : ℕ → AnswerSession). f k) is ∙ rw (other k n l) refl in
+    table_more n new ∙ ap₂ (λ (xs : List AnswerSession) (y : AnswerSession). xs ++ y ∷ []) (table_same n new old before) here
 
 -- ---- putting each
 

@@ -1,6 +1,6 @@
 -- How a byte string lies on sectors, and where a house's tables are on its device.
 -- Assumes nothing.
-use Rattle.std.specs.Prelude.{◌≡◌, ℕ, zero, suc, ◌+◌, ◌-◌, ◌*◌, ◌/◌, ◌^◌, ◌<◌, ◌≤◌, Bool, ◌&&◌, T, List, [], ◌∷◌, ◌++◌, length, take, drop, Result, Ok, Err, nat_le, ◌==◌, slice_index_or}
+use Rattle.std.specs.Prelude.{◌≡◌, ℕ, zero, suc, ◌+◌, ◌-◌, ◌*◌, ◌/◌, ◌^◌, ◌<◌, ◌≤◌, T, [], ◌∷◌, ◌++◌, length, take, drop, Result, Ok, ◌==◌}
 use Rattle.std.specs.List.{flat_map, list_all}
 use Rattle.disks.specs.Device.{zeros}
 use Rattle.octets.specs.Numbers.{bytes_of}

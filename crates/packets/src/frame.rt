@@ -5,6 +5,7 @@ ghost use Rattle.packets.specs.Formats.{framed};
 
 use crate::bytes::Bytes;
 use crate::fault::*;
+use crate::text::Text;
 use std::alloc::Global;
 
 pub(crate) fn put_frame(id: u64, body: &[u8], most: u16, out: &mut Vec<u8>) -> Result<(), Unsent>
@@ -25,8 +26,8 @@ pub(crate) fn take_frame(
     heap: Global,
     most: u16,
     bytes: &[u8],
-) -> Result<((u64, Vec<u8>), &[u8]), Unread>
-    ensures { Gives (λ x. ((x.0.0, x.0.1.items), x.1.now)) result ((framed most).read bytes.now) }
+) -> Result<((u64, Text), &[u8]), Unread>
+    ensures { Gives (λ x. (x.0, x.1.now)) result ((framed most).read bytes.now) }
 {
     let (length, rest) = u32::take(heap, bytes)?;
     if length < 8 || length - 8 > u32::from(most) {
@@ -36,5 +37,6 @@ pub(crate) fn take_frame(
     let (body, rest) = rest
         .split_at_checked((length - 8) as usize)
         .ok_or(Unread::Fault(Fault::Short))?;
-    Ok(((id, Vec::from_slice(heap, body)?), rest))
+    let text = Text::new(Vec::from_slice(heap, body)?);
+    Ok(((id, text), rest))
 }

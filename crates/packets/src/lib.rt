@@ -21,4 +21,5 @@ pub mod status;
 pub mod stored;
 #[cfg(test)]
 mod tests;
+pub mod text;
 pub mod whole;

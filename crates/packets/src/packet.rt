@@ -8,12 +8,13 @@ use crate::block::Block;
 use crate::bytes::Bytes;
 use crate::fault::*;
 use crate::rest::Rest;
+use crate::text::Text;
 use crate::whole::decode;
 use copies::message::*;
 use std::alloc::Global;
 
 // What one house sends another.
-pub type Packet = Message<Rest, Block, Vec<u8>, Vec<u8>>;
+pub type Packet = Message<Rest, Block, Text, Text>;
 
 const BUNDLE: u8 = 1;
 
@@ -25,7 +26,7 @@ const WANT: u8 = 4;
 
 const PART: u8 = 5;
 
-impl Bytes for Message<Rest, Block, Vec<u8>, Vec<u8>> {
+impl Bytes for Message<Rest, Block, Text, Text> {
     ghost View = { Said };
 
     ghost view = { see_message };

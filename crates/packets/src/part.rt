@@ -14,6 +14,7 @@ use crate::fault::*;
 use crate::list::*;
 use crate::rest::Rest;
 use crate::status::{NO, YES};
+use crate::text::Text;
 use copies::message::*;
 use copies::number::*;
 use copies::sessions::Sessions;
@@ -142,7 +143,7 @@ impl Bytes for Rest {
     }
 }
 
-impl Bytes for Tail<Rest, Vec<u8>> {
+impl Bytes for Tail<Rest, Text> {
     ghost View = { PartEnd };
 
     ghost view = { see_end };
@@ -165,7 +166,7 @@ impl Bytes for Tail<Rest, Vec<u8>> {
     }
 
     #[tactic(auto, unfolding(crate::specs::Formats::part_end))]
-    fn take(heap: Global, bytes: &[u8]) -> Result<(Tail<Rest, Vec<u8>>, &[u8]), Unread> {
+    fn take(heap: Global, bytes: &[u8]) -> Result<(Tail<Rest, Text>, &[u8]), Unread> {
         let (kind, rest) = u8::take(heap, bytes)?;
         match kind {
             NO => {
@@ -182,7 +183,7 @@ impl Bytes for Tail<Rest, Vec<u8>> {
     }
 }
 
-impl Bytes for Part<Rest, Block, Vec<u8>> {
+impl Bytes for Part<Rest, Block, Text> {
     ghost View = { PartSaid };
 
     ghost view = { see_part };
@@ -202,7 +203,7 @@ impl Bytes for Part<Rest, Block, Vec<u8>> {
     }
 
     #[tactic(auto, unfolding(crate::specs::Formats::part))]
-    fn take(heap: Global, bytes: &[u8]) -> Result<(Part<Rest, Block, Vec<u8>>, &[u8]), Unread> {
+    fn take(heap: Global, bytes: &[u8]) -> Result<(Part<Rest, Block, Text>, &[u8]), Unread> {
         let (asked, rest) = Want::take(heap, bytes)?;
         let (promised, rest) = u64::take(heap, rest)?;
         let (version, rest) = u64::take(heap, rest)?;

@@ -3,10 +3,11 @@ ghost use Rattle.std.specs.Prelude.{◌≡◌, ◌<◌, List, [], MatchOption};
 ghost use Rattle.copies.specs.Views.{the_sessions};
 ghost use Rattle.packets.specs.Codecs.{Gives, Puts, exactly, many_at};
 ghost use Rattle.packets.specs.Formats.{AnswerSession, session};
-ghost use Rattle.packets.specs.Seen.{shown_session, see_sessions};
+ghost use Rattle.packets.specs.Seen.{see_sessions};
 
 use crate::bytes::Bytes;
 use crate::fault::*;
+use crate::text::Text;
 use copies::message::Session;
 use copies::number::HouseNumber;
 use copies::sessions::{MOST_HOUSES, Sessions};
@@ -24,9 +25,8 @@ fn put_unused(out: &mut Vec<u8>) -> Result<(), Unsent>
     nothing.put(out)
 }
 
-#[tactic(auto, using(crate::proofs::Tables::shown_is))]
-fn put_of(sessions: &Sessions<Vec<u8>>, house: u64, out: &mut Vec<u8>) -> Result<(), Unsent>
-    ensures { Puts session (shown_session (the_sessions sessions.now house)) out.old.items out.new.items result }
+fn put_of(sessions: &Sessions<Text>, house: u64, out: &mut Vec<u8>) -> Result<(), Unsent>
+    ensures { Puts session ((the_sessions sessions.now house)) out.old.items out.new.items result }
 {
     match sessions.of(HouseNumber(house)) {
         Some(session) => session.put(out),
@@ -34,7 +34,7 @@ fn put_of(sessions: &Sessions<Vec<u8>>, house: u64, out: &mut Vec<u8>) -> Result
     }
 }
 
-impl Bytes for Sessions<Vec<u8>> {
+impl Bytes for Sessions<Text> {
     ghost View = { List AnswerSession };
 
     ghost view = { see_sessions };
@@ -50,7 +50,7 @@ impl Bytes for Sessions<Vec<u8>> {
         Ok(())
     }
 
-    fn take(heap: Global, bytes: &[u8]) -> Result<(Sessions<Vec<u8>>, &[u8]), Unread> {
+    fn take(heap: Global, bytes: &[u8]) -> Result<(Sessions<Text>, &[u8]), Unread> {
         let (count, rest) = u8::take(heap, bytes)?;
         if u64::from(count) != MOST_HOUSES {
             return Err(Unread::Fault(Fault::Range));
@@ -59,7 +59,7 @@ impl Bytes for Sessions<Vec<u8>> {
     }
 }
 
-fn take_each(heap: Global, bytes: &[u8]) -> Result<(Sessions<Vec<u8>>, &[u8]), Unread>
+fn take_each(heap: Global, bytes: &[u8]) -> Result<(Sessions<Text>, &[u8]), Unread>
     ensures { Gives (λ x. (see_sessions x.0, x.1.now)) result (many_at session 49 bytes.now) }
 {
     let mut sessions = Sessions::new(heap)?;

@@ -1,14 +1,14 @@
 // What a copy says of itself, and what it stores of the agreement.
 ghost use Rattle.std.specs.Prelude.{◌≡◌, Bool, map};
 ghost use Rattle.copies.specs.Messages.{Recovery as RecoverySaid};
-ghost use Rattle.copies.specs.Views.{the_recovery};
+ghost use Rattle.copies.specs.Views.{the_proposal, the_status, the_recovery, the_agreeing};
 ghost use Rattle.packets.specs.Codecs.{Gives, Puts};
 ghost use Rattle.packets.specs.Formats.{flag, proposal, status, recovery, agreeing, CallProposal, CallStatus, CallAgreeing};
-ghost use Rattle.packets.specs.Seen.{see_proposal, see_status, see_agreeing};
 
 use crate::bytes::Bytes;
 use crate::fault::*;
 use crate::list::*;
+use crate::text::Text;
 use copies::agreeing::*;
 use copies::message::*;
 use copies::number::*;
@@ -45,10 +45,10 @@ impl Bytes for bool {
     }
 }
 
-impl Bytes for Option<Proposal<Vec<u8>>> {
+impl Bytes for Option<Proposal<Text>> {
     ghost View = { CallProposal };
 
-    ghost view = { see_proposal };
+    ghost view = { the_proposal };
 
     ghost codec = { proposal };
 
@@ -65,7 +65,7 @@ impl Bytes for Option<Proposal<Vec<u8>>> {
     }
 
     #[tactic(auto, unfolding(crate::specs::Formats::proposal))]
-    fn take(heap: Global, bytes: &[u8]) -> Result<(Option<Proposal<Vec<u8>>>, &[u8]), Unread> {
+    fn take(heap: Global, bytes: &[u8]) -> Result<(Option<Proposal<Text>>, &[u8]), Unread> {
         let (kind, rest) = u8::take(heap, bytes)?;
         match kind {
             NO => Ok((None, rest)),
@@ -83,10 +83,10 @@ impl Bytes for Option<Proposal<Vec<u8>>> {
     }
 }
 
-impl Bytes for Status<Vec<u8>> {
+impl Bytes for Status<Text> {
     ghost View = { CallStatus };
 
-    ghost view = { see_status };
+    ghost view = { the_status };
 
     ghost codec = { status };
 
@@ -100,7 +100,7 @@ impl Bytes for Status<Vec<u8>> {
     }
 
     #[tactic(auto, unfolding(crate::specs::Formats::status))]
-    fn take(heap: Global, bytes: &[u8]) -> Result<(Status<Vec<u8>>, &[u8]), Unread> {
+    fn take(heap: Global, bytes: &[u8]) -> Result<(Status<Text>, &[u8]), Unread> {
         let (promised, rest) = u64::take(heap, bytes)?;
         let (version, rest) = u64::take(heap, rest)?;
         let (last, rest) = u64::take(heap, rest)?;
@@ -155,10 +155,10 @@ impl Bytes for Recovery {
     }
 }
 
-impl Bytes for Agreeing<Vec<u8>> {
+impl Bytes for Agreeing<Text> {
     ghost View = { CallAgreeing };
 
-    ghost view = { see_agreeing };
+    ghost view = { the_agreeing };
 
     ghost codec = { agreeing };
 
@@ -172,7 +172,7 @@ impl Bytes for Agreeing<Vec<u8>> {
     }
 
     #[tactic(auto, unfolding(crate::specs::Formats::agreeing))]
-    fn take(heap: Global, bytes: &[u8]) -> Result<(Agreeing<Vec<u8>>, &[u8]), Unread> {
+    fn take(heap: Global, bytes: &[u8]) -> Result<(Agreeing<Text>, &[u8]), Unread> {
         let (promised, rest) = u64::take(heap, bytes)?;
         let (version, rest) = u64::take(heap, rest)?;
         let (last, rest) = u64::take(heap, rest)?;

@@ -2,12 +2,14 @@
 ghost use Rattle.std.specs.Prelude.{◌≡◌};
 ghost use Rattle.packets.specs.Codecs.{Gives, Puts, SoundWhole, whole};
 ghost use Rattle.packets.specs.Formats.{Identity as IdentitySaid, mark, identity, agreeing, session, rest};
-ghost use Rattle.packets.specs.Seen.{see_identity, see_agreeing, see_session, see_rest};
+ghost use Rattle.copies.specs.Views.{the_agreeing, the_session};
+ghost use Rattle.packets.specs.Seen.{see_identity, see_rest};
 
 use crate::bytes::Bytes;
 use crate::fault::*;
 use crate::identity::Identity;
 use crate::rest::Rest;
+use crate::text::Text;
 use crate::whole::decode;
 use copies::agreeing::Agreeing;
 use copies::message::Session;
@@ -59,19 +61,19 @@ pub fn decode_identity(heap: Global, bytes: &[u8]) -> Result<Identity, Unread>
 }
 
 #[tactic(auto, using(crate::proofs::Formats::agreeings))]
-pub fn decode_agreeing(heap: Global, bytes: &[u8]) -> Result<Agreeing<Vec<u8>>, Unread>
-    ensures value { Gives see_agreeing result (whole agreeing bytes.now) }
+pub fn decode_agreeing(heap: Global, bytes: &[u8]) -> Result<Agreeing<Text>, Unread>
+    ensures value { Gives the_agreeing result (whole agreeing bytes.now) }
     ensures sound { SoundWhole agreeing }
 {
-    decode::<Agreeing<Vec<u8>>>(heap, bytes)
+    decode::<Agreeing<Text>>(heap, bytes)
 }
 
 #[tactic(auto, using(crate::proofs::Formats::sessions))]
-pub fn decode_session(heap: Global, bytes: &[u8]) -> Result<Session<Vec<u8>>, Unread>
-    ensures value { Gives see_session result (whole session bytes.now) }
+pub fn decode_session(heap: Global, bytes: &[u8]) -> Result<Session<Text>, Unread>
+    ensures value { Gives the_session result (whole session bytes.now) }
     ensures sound { SoundWhole session }
 {
-    decode::<Session<Vec<u8>>>(heap, bytes)
+    decode::<Session<Text>>(heap, bytes)
 }
 
 #[tactic(auto, using(crate::proofs::Formats::rests))]

@@ -4,6 +4,7 @@ use crate::fault::*;
 use crate::lay::*;
 use crate::packet::*;
 use crate::rest::Rest;
+use crate::text::Text;
 use crate::whole::encode;
 use copies::agreeing::*;
 use copies::message::*;
@@ -55,7 +56,7 @@ fn a_status_tells_its_proposal(rt: HostRuntime) -> Result<(), Fail> {
     let mut calls = Vec::new(rt.alloc());
     calls.push(Item {
         id: CallNumber(7),
-        call: [5, 6].to_vec(rt.alloc())?,
+        call: Text::new([5, 6].to_vec(rt.alloc())?),
     })?;
     let mut bundles = Vec::new(rt.alloc());
     bundles.push(Bundle {

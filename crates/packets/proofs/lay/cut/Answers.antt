@@ -1,4 +1,3 @@
-use Rattle.std.proofs.Common.{◌≡◌, length, ap, ◌∙◌}
 use Rattle.packets.specs.Areas.{cut}
 use Rattle.packets.proofs.OnSectors.{cut_on, cut_done}
 use Rattle.packets.proofs.lay.cut.Goals as goal

@@ -1,4 +1,3 @@
-use Rattle.std.proofs.Common.{◌≡◌, ◌++◌, ◌∷◌, []}
 use Rattle.std.proofs.lemmas.Result.{err_from_is_err_and}
 use Rattle.packets.specs.Formats.{sectors_at}
 use Rattle.packets.proofs.Blocks.{sectors_on, sectors_end, sectors_done}

@@ -6,7 +6,7 @@ use Rattle.packets.specs.Codecs.{◌then◌, number, listed}
 use Rattle.packets.specs.Formats.{StampedBlock, PartEnd, want, flag, stamped, part_end, part}
 use Rattle.packets.specs.Seen.{see_stamped, see_end}
 use Rattle.packets.proofs.Puts.{puts_then}
-use Rattle.packets.proofs.part.PartRestBlockVecU8Bytes.put.Goals as goal
+use Rattle.packets.proofs.part.PartRestBlockTextBytes.put.Goals as goal
 
 pub returns : goal.returns
 unfolding part

@@ -4,14 +4,14 @@ use Rattle.std.proofs.lemmas.Result.{err_from_is_err_and}
 use Rattle.octets.specs.Numbers.{bytes_of}
 use Rattle.copies.specs.Views.{the_sessions}
 use Rattle.packets.specs.Formats.{session}
-use Rattle.packets.specs.Seen.{shown_session, table}
+use Rattle.packets.specs.Seen.{table}
 use Rattle.packets.proofs.Tables.{each_spelled, each_fits, each_unfit, each_long}
-use Rattle.packets.proofs.sessions.SessionsVecU8Bytes.put.Goals as goal
+use Rattle.packets.proofs.sessions.SessionsTextBytes.put.Goals as goal
 
 pub returns-in_err-put_of : goal.returns-in_err-put_of
 returns-in_err-put_of c =
     let p = err_from_is_err_and c.from_residual-in_err-put_of.result c.from_residual-in_err-put_of.ensures.1 in
-    rw (p.1, p.2) (each_unfit session (λ h. shown_session (the_sessions c.args.self.now h)) c.in_err-put_of.field-0.0 49 c.loop-house.house c.loop-house-test.true c.in_err-put_of.ensures)
+    rw (p.1, p.2) (each_unfit session (the_sessions c.args.self.now) c.in_err-put_of.field-0.0 49 c.loop-house.house c.loop-house-test.true c.in_err-put_of.ensures)
 
 pub loop-house-init : goal.loop-house-init
 unfolding table
@@ -23,12 +23,12 @@ pub loop-house-preserved : goal.loop-house-preserved
 loop-house-preserved c =
     let e = c.in_ok-put_of.ensures in
     record {
-      spelled = each_spelled session (λ h. shown_session (the_sessions c.args.self.now h)) c.loop-house.house _ (bytes_of 1 49) _ _ c.loop-house.invariant.spelled e.0;
-      fits = each_fits session (λ h. shown_session (the_sessions c.args.self.now h)) c.loop-house.house c.loop-house.invariant.fits e.1;
+      spelled = each_spelled session (the_sessions c.args.self.now) c.loop-house.house _ (bytes_of 1 49) _ _ c.loop-house.invariant.spelled e.0;
+      fits = each_fits session (the_sessions c.args.self.now) c.loop-house.house c.loop-house.invariant.fits e.1;
     }
 
 pub returns : goal.returns
 returns c =
     let is : c.loop-house.house ≡ 49 = omega arith in
-    let f = λ (h : ℕ). shown_session (the_sessions c.args.self.now h) in
+    let f = the_sessions c.args.self.now in
     (subst (λ (n : ℕ). c.loop-house.out.items ≡ c.args.out.now.items ++ (bytes_of 1 49 ++ flat_map session.bytes (table n f))) is c.loop-house.invariant.spelled, each_long session f 49 (subst (λ (n : ℕ). T (list_all session.fits (table n f))) is c.loop-house.invariant.fits))
