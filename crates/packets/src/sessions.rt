@@ -26,7 +26,7 @@ fn put_unused(out: &mut Vec<u8>) -> Result<(), Unsent>
 }
 
 fn put_of(sessions: &Sessions<Text>, house: u64, out: &mut Vec<u8>) -> Result<(), Unsent>
-    ensures { Puts session ((the_sessions sessions.now house)) out.old.items out.new.items result }
+    ensures { Puts session (the_sessions sessions.now house) out.old.items out.new.items result }
 {
     match sessions.of(HouseNumber(house)) {
         Some(session) => session.put(out),
