@@ -9,9 +9,8 @@ pub const LEAST_SIZE: u64 = 65_536;
 
 pub const MOST_SIZE: u64 = 1 << 40;
 
-// Journal and tables: the journal's two slots have 960 sectors, and a house's tables fit the rest: 4,096 heads of volumes and as many of
-// pictures at 40 bytes take 640 sectors each, the sessions of 49 houses at nine sectors 441, a proposed command of 392 calls 810, and what
-// a copy stores besides a few.
+// Journal and tables: the journal's two slots have 6,400 sectors, and a house's tables the next 1,200 or so; the rest is for tables to come,
+// such as those of pictures.
 pub const FIXED_SECTORS: u64 = 16_384;
 
 // How many entries of the directory fill a sector.

@@ -1,0 +1,4 @@
+pub mod Codecs
+pub mod Formats
+pub mod Seen
+pub mod Areas

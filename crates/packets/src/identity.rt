@@ -1,0 +1,10 @@
+// Who a house is.
+use copies::number::HouseNumber;
+
+// houses: how many there are; incarnation: how often it has come up.
+#[derive(Clone, Copy, PartialEq, Eq)]
+pub struct Identity {
+    pub house: HouseNumber,
+    pub houses: u64,
+    pub incarnation: u64,
+}
