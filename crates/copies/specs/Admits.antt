@@ -6,7 +6,7 @@ use Rattle.std.specs.List.{list_all}
 use Rattle.disks.specs.Cluster.{From, Ask, Tick}
 use Rattle.agreement.specs.Copies.{Proposal, nothing, voted}
 use Rattle.copies.specs.Service.{Service, Keeper}
-use Rattle.copies.specs.Messages.{Bundle, Command, Session, Agreeing, Status, Want, Part, Bundled, Done, Told, Asked, Given}
+use Rattle.copies.specs.Messages.{Bundle, Command, Session, Agreeing, Status, Want, Part, Message, Bundled, Done, Told, Asked, Given}
 use Rattle.copies.specs.Copy.{Memory}
 use Rattle.copies.specs.House.{Messages, Guard}
 
@@ -50,13 +50,16 @@ want_fits w = fits w.base && fits w.top
 abbrev pub part_fits : {X B A : Type 0} → Part X B A → Bool
 part_fits x = want_fits x.asked && fits x.promised && fits x.version && fits x.last
 
+abbrev pub packet_fits : {X B O A : Type 0} → Message X B O A → Bool
+packet_fits (Bundled b) = bundle_fits b
+packet_fits (Done s) = session_fits s
+packet_fits (Told x) = status_fits x
+packet_fits (Asked w) = want_fits w
+packet_fits (Given x) = part_fits x
+
 module _ {O R : Type 0} (sv : Service O R) (kp : Keeper sv) where
   abbrev pub message_fits : Messages sv kp → Bool
-  message_fits (Bundled b) = bundle_fits b
-  message_fits (Done s) = session_fits s
-  message_fits (Told x) = status_fits x
-  message_fits (Asked w) = want_fits w
-  message_fits (Given x) = part_fits x
+  message_fits x = packet_fits x
 
   abbrev pub admits : Guard sv kp
   admits (From r x) m d = is_ready d.agreeing m && is_house r && message_fits x

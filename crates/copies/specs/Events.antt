@@ -1,8 +1,8 @@
 -- What the code says of a whole event.
 -- Assumes nothing.
-use Rattle.std.specs.Prelude.{◌≡◌, Bool, true, false, ◌&&◌, [], nat_le}
-use Rattle.copies.specs.Messages.{Session}
-use Rattle.copies.specs.Copy.{Turn, rests, silent, count, pack, settle, forward}
+use Rattle.std.specs.Prelude.{◌≡◌, ℕ, Bool, true, false, ◌&&◌, [], nat_le}
+use Rattle.copies.specs.Messages.{Session, Message, Bundled, Done, Told, Asked, Given}
+use Rattle.copies.specs.Copy.{Turn, rests, silent, count, pack, settle, forward, on_bundle, on_status, on_want, on_part}
 use Rattle.copies.specs.Admits.{is_ready, is_house}
 use Rattle.copies.specs.Views.{the_agreeing, the_sessions, the_memory, the_turn}
 use Rattle.copies.specs.declared.number.HouseNumber.{HouseNumber}
@@ -21,6 +21,14 @@ module _ {X B C A : Type 0} where
   -- replies of the bundle under way
   abbrev pub settles : Session A → Turn X B C A → Turn X B C A
   settles s t = forward (pack (settle s t.memory.way t))
+
+  -- a message comes from house r
+  abbrev pub hearing : ℕ → Message X B C A → Turn X B C A → Turn X B C A
+  hearing r (Bundled b) t = forward (on_bundle b t)
+  hearing r (Done s) t = settles s t
+  hearing r (Told x) t = on_status r x t
+  hearing r (Asked w) t = on_want r w t
+  hearing r (Given x) t = on_part r x t
 
   -- an event that is admitted does f to the house, and one that isn't leaves it as it was
   abbrev pub Hears : Bool → (Turn X B C A → Turn X B C A) → House C A → Heard X B C A → Type 0

@@ -3,7 +3,7 @@
 use Rattle.std.specs.Prelude.{ℕ, zero, suc, ◌%◌, slice_index_or, List, [], ◌∷◌, Option, Some, None, map, vec_items}
 use Rattle.agreement.specs.Copies.{Proposal, nothing, voted}
 use Rattle.copies.specs.Service.{Stamped}
-use Rattle.copies.specs.Messages.{Item, Bundle, Command, Reply, Session, Recovery, level, recovers, Agreeing, Status, Want, Part, Tail, more, ends, unused}
+use Rattle.copies.specs.Messages.{Item, Bundle, Command, Reply, Session, Recovery, level, recovers, Agreeing, Status, Want, Part, Tail, more, ends, Message, Bundled, Done, Told, Asked, Given, unused}
 use Rattle.copies.specs.Copy.{Way, free, under, Span, unseen, from_to, Pass, Memory, Whom, nobody, one, others, Serve, Sends, Work, rests, applies, takes, replaces, Turn}
 use Rattle.copies.specs.Steps.{Marks}
 use Rattle.copies.specs.declared.number.HouseNumber.{HouseNumber}
@@ -18,6 +18,8 @@ use Rattle.copies.specs.declared.message.Stamped.{Stamped as StampedHad}
 use Rattle.copies.specs.declared.message.Tail.{Tail as TailHad}
 use Rattle.copies.specs.declared.message.Tail.TheVariants.{More, Ends}
 use Rattle.copies.specs.declared.message.Part.{Part as PartHad}
+use Rattle.copies.specs.declared.message.Message.{Message as MessageHad}
+use Rattle.copies.specs.declared.message.Message.TheVariants as said
 use Rattle.copies.specs.declared.sessions.Sessions.{Sessions as SessionsHad}
 use Rattle.copies.specs.declared.agreeing.Command.{Command as CommandHad}
 use Rattle.copies.specs.declared.agreeing.Proposal.{Proposal as ProposalHad}
@@ -134,6 +136,13 @@ the_part x =
       blocks = map the_stamped (vec_items x.blocks);
       tail = the_tail x.tail;
     }
+
+abbrev pub the_message : {X B C A : Type 0} → MessageHad X B C A → Message X B C A
+the_message (said.Bundle b) = Bundled (the_bundle b)
+the_message (said.Replies s) = Done (the_session s)
+the_message (said.Status x) = Told (the_status x)
+the_message (said.Want w) = Asked (the_want w)
+the_message (said.Part x) = Given (the_part x)
 
 -- WHAT A HOUSE REMEMBERS
 abbrev pub the_span : Option SpanHad → Span

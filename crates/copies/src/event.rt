@@ -2,13 +2,13 @@
 // it goes on.
 ghost use Rattle.std.specs.Prelude.{◌≡◌, ◌<◌, ◌^◌, ◌&&◌, ◌||◌, [], IfOk, cond};
 ghost use Rattle.copies.specs.Copy.{rests, on_bundle, on_status, on_want, on_part, on_tick, taken, begins_again, queued, pack, forward, goes_on};
-ghost use Rattle.copies.specs.Admits.{fits, bundle_fits, session_fits, status_fits, want_fits, part_fits};
-ghost use Rattle.copies.specs.Events.{begun, settles, Hears, HearsKept, Calls, CallsKept, KeptSince, house_ready, admits_from, is_full};
+ghost use Rattle.copies.specs.Admits.{fits, bundle_fits, session_fits, status_fits, want_fits, part_fits, packet_fits};
+ghost use Rattle.copies.specs.Events.{begun, settles, hearing, Hears, HearsKept, Calls, CallsKept, KeptSince, house_ready, admits_from, is_full};
 ghost use Rattle.copies.specs.Steps.{is_applied, is_replaced};
-ghost use Rattle.copies.specs.Views.{the_bundle, the_session, the_status, the_want, the_part, the_work, the_turn};
+ghost use Rattle.copies.specs.Views.{the_bundle, the_session, the_status, the_want, the_part, the_message, the_work, the_turn};
 
 use crate::admit::fits;
-use crate::message::{Bundle, Part, Session, Status, Want};
+use crate::message::{Bundle, Message, Part, Session, Status, Want};
 use crate::number::*;
 use crate::service::Copied;
 use crate::turn::{House, Sends, Stores, Turn, Whom, Work};
@@ -144,6 +144,25 @@ impl<C: Copied, A: Copied> House<C, A> {
         let before = self.agreeing.marks();
         let turn = self.begins(heap).on_part(from, part);
         Heard::Begun(turn.noting(Stores::nothing(), before))
+    }
+
+    // A message comes from another house.
+    pub fn hears<X: Drop, B: Drop>(
+        self,
+        heap: Global,
+        from: HouseNumber,
+        message: Message<X, B, C, A>,
+    ) -> Result<Heard<X, B, C, A>, AllocError>
+        ensures kept { IfOk result (HearsKept self) }
+        ensures value { IfOk result (Hears (admits_from self from && packet_fits (the_message message)) (hearing from.0 (the_message message)) self) }
+    {
+        match message {
+            Message::Bundle(bundle) => self.hears_bundle(heap, from, bundle),
+            Message::Replies(session) => self.hears_replies(heap, from, session),
+            Message::Status(status) => self.hears_status(heap, from, status),
+            Message::Want(want) => Ok(self.hears_want(heap, from, want)),
+            Message::Part(part) => Ok(self.hears_part(heap, from, part)),
+        }
     }
 
     #[tactic(auto, using(crate::proofs::Ready::ready_counter, crate::proofs::Told::told_call))]
