@@ -215,13 +215,13 @@ module _ {O R : Type 0} {sv : Service O R} {kp : Keeper sv} (alone : Alone sv kp
       let tv = ap (λ (z : Agreeing O). z.recovery) t.agreeing_is in
       let u = tells_is_left c X (turn_of sv kp ms ds) (omega (arith, p.ly, fs.me_is)) p.lx (λ e. p.ne (sym (e ∙ fs.me_is))) l (ap (λ (z : Recovery). not (is_level z)) (tv ∙ v)) refl in
       let su = step_to alone (told_is sv kp c X ms ds u.work_is) (hear_x alone (swap alone p) st.then st.y_is st.x_is (Told X) k) in
-      let k2 = said alone (swap alone p) su u.says in
+      let told_back = said alone (swap alone p) su u.says in
       let zs = with_turn sv kp (goes_on (on_status c X (turn_of sv kp ms ds))) (begins sv kp ms ds) in
       let zc = ticked sv kp (begins sv kp mc dc) in
       let Y : Status O = status_now sv kp zs.turn.agreeing in
       let f2 = facts alone su.then c zc.turn.memory (disk_of sv kp zc) p.lx su.y_is in
       let i = asks_left s Y (turn_of sv kp zc.turn.memory (disk_of sv kp zc)) a b (omega (arith, p.lx, f2.me_is)) p.ly (λ e. p.ne (e ∙ f2.me_is)) (tv ∙ v) (ap (λ (z : Recovery). not (is_level z)) (u.stands.rec_is ∙ l)) (omega (arith, ap (λ (z : Agreeing O). z.version) t.agreeing_is, u.stands.ver_is, h)) t.asked in
-      let si = step_to alone (told_is sv kp s Y zc.turn.memory (disk_of sv kp zc) i.work_is) (hear_x alone p su.then su.y_is su.x_is (Told Y) k2) in
+      let si = step_to alone (told_is sv kp s Y zc.turn.memory (disk_of sv kp zc) i.work_is) (hear_x alone p su.then su.y_is su.x_is (Told Y) told_back) in
       let zi = with_turn sv kp (goes_on (on_status s Y (turn_of sv kp zc.turn.memory (disk_of sv kp zc)))) (begins sv kp zc.turn.memory (disk_of sv kp zc)) in
       let iv = ap (λ (z : Agreeing O). z.recovery) i.agreeing_is ∙ tv ∙ v in
       let e = ends_level p si.then zi.turn.memory (disk_of sv kp zi) zs.turn.memory (disk_of sv kp zs) (record {

@@ -2,54 +2,18 @@
 //! before and after each event. What only sends is done at once, since who has been sent more can do all that who was sent less can.
 //! Where bundles and replies aren't on the wire, each status that a copy ever stored may come to the others, whether it was sent or not.
 //! A tick at a level copy that doesn't lead takes a ballot at once. States are told apart by hashes of 64 bits.
+use crate::bounds::Bounds;
 use crate::copy::Memory;
 use crate::history::{Check, Fault, History, fault, holds};
 use crate::house::{Did, Disk, In, Out, acts, wakes};
 use crate::messages::{Command, Item, Message, Recovery, Status};
 use crate::mistakes::Mistake;
+use crate::numbered::{Fast, Numbered, Quick};
 use crate::rules::Rules;
 use crate::service::{Answer, Call};
 use std::collections::{HashMap, HashSet};
-use std::hash::{BuildHasherDefault, Hash, Hasher};
+use std::hash::Hash;
 use std::rc::Rc;
-
-/// How many ballots are taken by ticks, calls made, and falls; and after how many states to stop.
-#[derive(Clone, Copy, Debug)]
-pub struct Bounds {
-    pub ballots: u8,
-    pub calls: u8,
-    pub falls: u8,
-    /// no version is above it
-    pub places: u64,
-    /// bundles and replies go over the wire, too; or else a copy proposes only calls of its own
-    pub bundles: bool,
-    pub states: usize,
-}
-
-const fn bounds(ballots: u8, calls: u8, falls: u8, places: u64, bundles: bool) -> Bounds {
-    Bounds { ballots, calls, falls, places, bundles, states: usize::MAX }
-}
-
-/// In seconds.
-pub const SHORT: &[Bounds] = &[bounds(1, 2, 0, 9, false), bounds(2, 1, 0, 9, false), bounds(1, 1, 0, 9, true)];
-
-/// In a minute.
-pub const LONG: &[Bounds] = &[
-    bounds(1, 2, 1, 9, false),
-    bounds(2, 1, 1, 9, false),
-    bounds(2, 2, 1, 1, false),
-    bounds(2, 3, 0, 1, false),
-    bounds(3, 1, 0, 9, false),
-    bounds(1, 1, 1, 9, true),
-    bounds(2, 1, 0, 9, true),
-];
-
-/// Two ballots, two calls, two places: some minutes.
-pub const LONGEST: &[Bounds] = &[bounds(2, 2, 0, 9, false)];
-
-/// Bounds within which mistakes are looked for.
-pub const LOOKS: &[Bounds] =
-    &[bounds(2, 2, 0, 1, false), bounds(1, 2, 1, 9, false), bounds(2, 1, 1, 9, false), bounds(1, 1, 1, 9, true)];
 
 /// What was gone through. Whole: nothing within the bounds was left out.
 #[derive(Clone, Copy, Debug, Default)]
@@ -71,68 +35,6 @@ const CALLS: [Call; 4] = [
     Call::Write { key: 3, block: 0 },
     Call::Drop { group: 0 },
 ];
-
-/// A quick hash of few numbers.
-#[derive(Clone, Copy, Default)]
-pub struct Quick(u64);
-
-impl Hasher for Quick {
-    fn finish(&self) -> u64 {
-        self.0 ^ self.0 >> 32
-    }
-
-    fn write(&mut self, bytes: &[u8]) {
-        for byte in bytes {
-            self.write_u64(u64::from(*byte));
-        }
-    }
-
-    fn write_u8(&mut self, n: u8) {
-        self.write_u64(u64::from(n));
-    }
-
-    fn write_u32(&mut self, n: u32) {
-        self.write_u64(u64::from(n));
-    }
-
-    fn write_usize(&mut self, n: usize) {
-        self.write_u64(n as u64);
-    }
-
-    fn write_u64(&mut self, n: u64) {
-        self.0 = (self.0.rotate_left(23) ^ n).wrapping_mul(0x9e37_79b9_7f4a_7c15);
-        self.0 ^= self.0 >> 29;
-    }
-}
-
-type Fast = BuildHasherDefault<Quick>;
-
-/// Values under numbers.
-struct Numbered<T> {
-    values: Vec<Rc<T>>,
-    numbers: HashMap<Rc<T>, u32, Fast>,
-}
-
-impl<T: Hash + Eq> Numbered<T> {
-    fn new() -> Numbered<T> {
-        Numbered { values: Vec::new(), numbers: HashMap::default() }
-    }
-
-    fn number(&mut self, value: T) -> u32 {
-        if let Some(number) = self.numbers.get(&value) {
-            return *number;
-        }
-        let number = self.values.len() as u32;
-        let value = Rc::new(value);
-        self.values.push(value.clone());
-        self.numbers.insert(value, number);
-        number
-    }
-
-    fn get(&self, number: u32) -> Rc<T> {
-        self.values[number as usize].clone()
-    }
-}
 
 #[derive(Clone, Copy, Debug, PartialEq, Eq, Hash)]
 enum Happens {

@@ -1,5 +1,6 @@
 //! `copies-explore walks [N [SEED]]`, `all [long]`, `mistakes [N [MISTAKE]]`, `settle [N [SEED]]`, `show MISTAKE SEED`.
-use second_copies::all::{Bounds, LONG, LONGEST, LOOKS, explore};
+use second_copies::all::explore;
+use second_copies::bounds::{Bounds, LONG, LONGEST, LOOKS};
 use second_copies::history::Check;
 use second_copies::mistakes::Mistake;
 use second_copies::walks::{STEPS, settle, shortened, walk, walks};

@@ -1,5 +1,6 @@
 //! Short runs for every gate; the program plays longer ones.
-use second_copies::all::{Bounds, LOOKS, SHORT, explore};
+use second_copies::all::explore;
+use second_copies::bounds::{Bounds, LOOKS, SHORT};
 use second_copies::history::Check;
 use second_copies::mistakes::Mistake;
 use second_copies::walks::{STEPS, settle, walks};
