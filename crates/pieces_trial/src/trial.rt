@@ -1,4 +1,6 @@
 // The directory in memory and on a device, beside a plain map of what each sector holds.
+ghost use Rattle.std.specs.Prelude.{◌≡◌, IfOk};
+
 use anyhow::anyhow;
 use memory_disk::random::Random;
 use octets::{BLANK_SECTOR, SECTOR_BYTES};
@@ -62,12 +64,16 @@ struct Trial {
     counts: Counts,
 }
 
-fn layout() -> anyhow::Result<Layout> {
+fn layout() -> anyhow::Result<Layout>
+    ensures { IfOk result (λ l. l.size ≡ 65536) }
+{
     Layout::of(LEAST_SIZE).ok_or(anyhow!("no such device"))
 }
 
 impl Trial {
-    fn new(heap: Global) -> anyhow::Result<Trial> {
+    fn new(heap: Global) -> anyhow::Result<Trial>
+        ensures { IfOk result (λ t. t.pieces.layout.size ≡ 65536) }
+    {
         let layout = layout()?;
         let directory = vec![in heap; BLANK_SECTOR; layout.directory_sectors() as usize]?;
         let data = vec![in heap; 0u8; layout.places() as usize + 1]?;
@@ -285,7 +291,9 @@ pub fn random(heap: Global, seed: u64, steps: u64) -> anyhow::Result<Counts> {
 }
 
 // One sector behind the other, until there is no room; where some are zeros again as many others fit.
-pub fn dense(heap: Global) -> anyhow::Result<(u64, u64)> {
+pub fn dense(heap: Global) -> anyhow::Result<(u64, u64)>
+    ensures { IfOk result (λ p. p.0 ≡ 31744) }
+{
     let mut trial = Trial::new(heap)?;
     trial.lives.push(Volume(1))?;
     let places = trial.pieces.layout().places();
