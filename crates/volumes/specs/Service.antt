@@ -2,7 +2,7 @@
 -- Assumes nothing.
 use Rattle.std.specs.Prelude.{◌≡◌, ℕ, ◌+◌, ◌-◌, ◌<◌, Bool, cond, not, ◌&&◌, ◌||◌, List, [], ◌∷◌, ◌++◌, length, Some, None, Ok, Err, Option, Result, vec_items, ◌==◌, nat_le, nat_lt, slice_index_or, slice_set}
 use Rattle.disks.specs.Disks.{find, change, all_zero, one, Call, Make, Attach, Read, Write, Sync, Picture', Copy, Drop, DropPicture, Reply, No, Yes, Num, Token, Sector, Full}
-use Rattle.std.specs.List.{remove}
+use Rattle.std.specs.List.{remove, list_any}
 use Rattle.wire.specs.Answers.{the_reply}
 use Rattle.wire.specs.declared.answer.Answer.TheVariants.{Refused}
 use Rattle.wire.specs.declared.refusal.Refusal.{Refusal}
@@ -37,6 +37,10 @@ says r s = record { reply = r; service = s; change = keeps }
 
 abbrev pub is_head : ℕ → Head → Bool
 is_head n h = n == h.number.0
+
+-- May a call still ask for sectors of this volume? It has a head, or its number isn't given yet; no volume has the number 0.
+abbrev pub is_living : (next : ℕ) → List Head → (volume : ℕ) → Bool
+is_living next hs v = not (v == 0) && (nat_le next v || list_any (is_head v) hs)
 
 -- the first of that number taken out
 unfoldable pub without : {A : Type 0} → (A → Bool) → List A → List A

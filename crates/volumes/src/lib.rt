@@ -2,6 +2,7 @@
 #![tactic(auto)]
 
 pub mod head;
+pub mod living;
 pub mod outcome;
 pub mod service;
 pub mod volumes;
