@@ -7,6 +7,7 @@ pub mod Cells
 pub mod Admits
 pub mod Guarded
 pub mod Views
+pub mod Posts
 pub mod Steps
 pub mod Events
 pub mod Runs

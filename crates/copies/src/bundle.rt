@@ -17,7 +17,7 @@ use std::mem;
 pub const MOST_CALLS: usize = 8;
 
 impl<C: Copied> Bundle<C> {
-    fn copied(&self, heap: Global) -> Result<Bundle<C>, AllocError>
+    pub(crate) fn copied(&self, heap: Global) -> Result<Bundle<C>, AllocError>
         ensures { IfOk result (λ b. the_bundle b ≡ the_bundle self.now) }
     {
         let calls = all_copied(self.calls.as_slice(), heap)?;

@@ -11,6 +11,7 @@ pub mod memory;
 pub mod message;
 pub mod number;
 pub mod part;
+pub mod post;
 pub mod run;
 pub mod service;
 pub mod sessions;
