@@ -10,7 +10,7 @@ use Rattle.agreement.specs.Copies.{nothing, voted}
 use Rattle.copies.specs.Messages.{Recovery, level, recovers, Want}
 use Rattle.packets.specs.declared.fault.Fault.TheVariants.{Range}
 use Rattle.packets.specs.Codecs.{◌>>=◌, Sound, SoundWhole, number, number_at, text_at, ◌then◌, constant, listed, exactly, frame_at, empty, on_either, only, or_kind, of_kinds}
-use Rattle.packets.specs.Formats.{Bytes, CallItem, CallBundle, AnswerReply, AnswerSession, CallProposal, CallStatus, CallAgreeing, StampedBlock, framed, item, reply, bundle, session, flag_of, flag, proposed, proposal, status, span_of, recovery, agreeing, want, block, stamped, head, rest, PartEnd, more_from, with_rest, end_of, part_end, PartSaid, part, Said, bundled, replied, told, asked, given, SaidOf, said_of, said, message, Identity, mark, identity}
+use Rattle.packets.specs.Formats.{Bytes, CallItem, CallBundle, AnswerReply, AnswerSession, CallProposal, CallStatus, CallAgreeing, StampedBlock, framed, item, reply, bundle, session, flag_of, flag, proposed, proposal, status, span_of, recovery, agreeing, want, block, stamped, head, rest, PartEnd, more_from, with_rest, end_of, part_end, PartSaid, part, Said, bundled, replied, told, asked, given, SaidOf, said_of, said, message, Identity, mark, identity, Directory, directory}
 use Rattle.packets.proofs.Sounds.{bind_ok, guard_ok, ok_is, rest_bytes, number_sound, text_back, text_takes, then_sound, shaped_sound, listed_sound, exactly_sound, empty_sound, constant_sound, only_sound, or_kind_sound, of_kinds_sound, whole_sound}
 use Rattle.packets.proofs.Blocks.{block_sound}
 
@@ -247,8 +247,15 @@ rests = whole_sound rest rest_sound
 identity_sound : Sound identity
 unfolding identity
 identity_sound =
-    shaped_sound {B = Identity} (λ p. record { house = p.1.0; houses = p.1.1.0; incarnation = p.1.1.1 }) (λ i. (tt, (i.house, (i.houses, i.incarnation)))) (constant 8 mark then number 8 then number 8 then number 8) (λ y. refl) (λ x. refl)
-    (then_sound (constant 8 mark) (number 8 then number 8 then number 8) (constant_sound 8 mark (omega arith)) (then_sound (number 8) (number 8 then number 8) (number_sound 8) span_sound))
+    shaped_sound {B = Identity} (λ p. record { house = p.1.0; houses = p.1.1.0; size = p.1.1.1.0; incarnation = p.1.1.1.1 }) (λ i. (tt, (i.house, (i.houses, (i.size, i.incarnation))))) (constant 8 mark then number 8 then number 8 then number 8 then number 8) (λ y. refl) (λ x. refl)
+    (then_sound (constant 8 mark) (number 8 then number 8 then number 8 then number 8) (constant_sound 8 mark (omega arith)) (then_sound (number 8) (number 8 then number 8 then number 8) (number_sound 8) (then_sound (number 8) (number 8 then number 8) (number_sound 8) span_sound)))
+
+directory_sound : Sound directory
+unfolding directory
+directory_sound = shaped_sound {B = Directory} (λ p. record { generation = p.0; floor = p.1 }) (λ d. (d.generation, d.floor)) (number 8 then number 8) (λ y. refl) (λ x. refl) span_sound
+
+pub directories : SoundWhole directory
+directories = whole_sound directory directory_sound
 
 pub identities : SoundWhole identity
 identities = whole_sound identity identity_sound

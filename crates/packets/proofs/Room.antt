@@ -5,12 +5,12 @@ use Rattle.std.proofs.lemmas.Bool.Decides.{nat_tests}
 use Rattle.octets.specs.Numbers.{bytes_of}
 use Rattle.octets.proofs.Numbers.{length-bytes_of, both}
 use Rattle.packets.specs.Codecs.{Codec, number, ◌then◌, constant, listed, only, or_kind, of_kinds, empty}
-use Rattle.packets.specs.Formats.{framed, item, reply, bundle, session, proposal, recovery, agreeing, head, rest, mark, identity, proposed, span_of}
+use Rattle.packets.specs.Formats.{framed, item, reply, bundle, session, proposal, recovery, agreeing, head, rest, mark, identity, directory, proposed, span_of}
 use Rattle.packets.specs.Areas.{AreasApart, AreasHold, FindsRoom, area}
 use Rattle.packets.proofs.OnSectors.{sectors_sound}
 
 pub areas_apart : AreasApart
-areas_apart = record { identity_after = refl; agreeing_after = refl; sessions_after = refl; session_after = λ h. omega arith; rest_after = refl; within = omega arith }
+areas_apart = record { identity_after = refl; agreeing_after = refl; sessions_after = refl; session_after = λ h. omega arith; rest_after = refl; kept_after = refl; within = omega arith }
 
 -- what has bytes has no more than so many
 abbrev Within : {A : Type 0} → Codec A → ℕ → Type 0
@@ -98,18 +98,23 @@ rest_within : Within rest 131090
 unfolding rest
 rest_within r h = two (listed 2 4096 head) (2 + 4096 * 32) (listed_within 2 4096 head 32 head_within) (r.next, (r.weight, r.heads)) h
 
-identity_within : Within identity 32
+identity_within : Within identity 40
 unfolding identity
 identity_within i h =
-    then_within (constant 8 mark) (number 8 then number 8 then number 8) 8 24 (constant_within 8 mark) (two (number 8) 8 (number_within 8)) (tt, (i.house, (i.houses, i.incarnation))) h
+    then_within (constant 8 mark) (number 8 then number 8 then number 8 then number 8) 8 32 (constant_within 8 mark) (three (number 8) 8 (number_within 8)) (tt, (i.house, (i.houses, (i.size, i.incarnation)))) h
+
+directory_within : Within directory 16
+unfolding directory
+directory_within d h = then_within (number 8) (number 8) 8 8 (number_within 8) (number_within 8) (d.generation, d.floor) h
 
 room : {A : Type 0} (c : Codec A) (n first count : ℕ) → n + 8 ≤ 512 * count → Within c n → FindsRoom c (area first count)
 room c n first count le f x h = rw (sectors_sound.count (c.bytes x)) (omega (arith, f x h))
 
 pub areas_hold : AreasHold
 areas_hold = record {
-  identities = room identity 32 6400 1 (omega arith) identity_within;
+  identities = room identity 40 6400 1 (omega arith) identity_within;
   agreeings = room agreeing 216484 6401 430 (omega arith) agreeing_within;
   sessions = λ h. room session 4217 (6831 + 10 * h) 10 (omega arith) session_within;
   rests = room rest 131090 7321 257 (omega arith) rest_within;
+  directories = room directory 16 7578 1 (omega arith) directory_within;
 }

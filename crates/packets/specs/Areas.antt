@@ -7,7 +7,7 @@ use Rattle.octets.specs.Numbers.{bytes_of}
 use Rattle.packets.specs.declared.fault.Fault.{Fault}
 use Rattle.packets.specs.declared.area.Area.{Area}
 use Rattle.packets.specs.Codecs.{◌>>=◌, Codec, number_at, text_at}
-use Rattle.packets.specs.Formats.{Bytes, Sectors, identity, agreeing, session, rest}
+use Rattle.packets.specs.Formats.{Bytes, Sectors, identity, directory, agreeing, session, rest}
 
 -- ON SECTORS
 -- how many sectors so many bytes take
@@ -58,6 +58,9 @@ session_area h = area (6831 + 10 * h) 10
 abbrev pub rest_area : Area
 rest_area = area 7321 257
 
+abbrev pub kept_area : Area
+kept_area = area 7578 1
+
 abbrev pub end_of : Area → ℕ
 end_of a = a.first + a.count
 
@@ -68,7 +71,8 @@ pub record AreasApart : Type 0 where
   pub sessions_after : end_of agreeing_area ≡ (session_area 0).first
   pub session_after : (h : ℕ) → end_of (session_area h) ≡ (session_area (suc h)).first
   pub rest_after : end_of (session_area 48) ≡ rest_area.first
-  pub within : end_of rest_area ≤ 16384
+  pub kept_after : end_of rest_area ≡ kept_area.first
+  pub within : end_of kept_area ≤ 16384
 
 -- whatever has bytes finds room in its area
 abbrev pub FindsRoom : {A : Type 0} → Codec A → Area → Type 0
@@ -79,3 +83,4 @@ pub record AreasHold : Type 0 where
   pub agreeings : FindsRoom agreeing agreeing_area
   pub sessions : (h : ℕ) → FindsRoom session (session_area h)
   pub rests : FindsRoom rest rest_area
+  pub directories : FindsRoom directory kept_area

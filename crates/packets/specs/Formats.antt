@@ -210,13 +210,23 @@ message = shaped said said_of (of_kinds (or_kind 1 bundle (or_kind 2 session (or
 pub record Identity : Type 0 where
   pub house : ℕ
   pub houses : ℕ
+  pub size : ℕ
   pub incarnation : ℕ
 
 -- the mark of a house's tables: `kindself`
 abbrev pub mark : ℕ
 mark = 7739838812324719718
 
--- the mark, house, how many houses, incarnation
+-- the mark, house, how many houses, size of its device, incarnation
 unfoldable pub identity : Codec Identity
 identity =
-    shaped (λ p. record { house = p.1.0; houses = p.1.1.0; incarnation = p.1.1.1 }) (λ i. (tt, (i.house, (i.houses, i.incarnation)))) (constant 8 mark then number 8 then number 8 then number 8)
+    shaped (λ p. record { house = p.1.0; houses = p.1.1.0; size = p.1.1.1.0; incarnation = p.1.1.1.1 }) (λ i. (tt, (i.house, (i.houses, (i.size, i.incarnation))))) (constant 8 mark then number 8 then number 8 then number 8 then number 8)
+
+-- WHAT IS KNOWN OF A DIRECTORY besides its sectors
+pub record Directory : Type 0 where
+  pub generation : ℕ
+  pub floor : ℕ
+
+-- generation, floor
+unfoldable pub directory : Codec Directory
+directory = shaped (λ p. record { generation = p.0; floor = p.1 }) (λ d. (d.generation, d.floor)) (number 8 then number 8)

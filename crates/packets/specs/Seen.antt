@@ -13,7 +13,8 @@ use Rattle.copies.specs.declared.message.Stamped.{Stamped as StampedHad}
 use Rattle.packets.specs.declared.block.Block.{Block}
 use Rattle.packets.specs.declared.rest.Rest.{Rest}
 use Rattle.packets.specs.declared.identity.Identity.{Identity as IdentityHad}
-use Rattle.packets.specs.Formats.{Bytes, AnswerSession, Sectors, StampedBlock, PartEnd, more_from, with_rest, PartSaid, Said, bundled, replied, told, asked, given, Identity}
+use Rattle.packets.specs.declared.directory.Directory.{Directory as DirectoryHad}
+use Rattle.packets.specs.Formats.{Bytes, AnswerSession, Sectors, StampedBlock, PartEnd, more_from, with_rest, PartSaid, Said, bundled, replied, told, asked, given, Identity, Directory}
 
 abbrev pub see_block : Block → Sectors
 see_block b = vec_items b.sectors
@@ -57,4 +58,7 @@ see_message (messages.Want w) = asked (the_want w)
 see_message (messages.Part x) = given (see_part x)
 
 abbrev pub see_identity : IdentityHad → Identity
-see_identity i = record { house = i.house.0; houses = i.houses; incarnation = i.incarnation }
+see_identity i = record { house = i.house.0; houses = i.houses; size = i.size; incarnation = i.incarnation }
+
+abbrev pub see_directory : DirectoryHad → Directory
+see_directory d = record { generation = d.generation; floor = d.floor }

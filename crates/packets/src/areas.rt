@@ -1,6 +1,6 @@
 // The areas of a house's tables.
 ghost use Rattle.std.specs.Prelude.{◌≡◌, ◌≤◌, MatchOption};
-ghost use Rattle.packets.specs.Areas.{journal_area, identity_area, agreeing_area, session_area, rest_area, AreasApart, AreasHold};
+ghost use Rattle.packets.specs.Areas.{journal_area, identity_area, agreeing_area, session_area, rest_area, kept_area, AreasApart, AreasHold};
 
 use crate::area::Area;
 use copies::number::HouseNumber;
@@ -35,6 +35,12 @@ pub const REST: Area = Area {
     count: 257,
 };
 
+// What is known of the directory besides its sectors.
+pub const KEPT: Area = Area {
+    first: 7_578,
+    count: 1,
+};
+
 // No table reaches it.
 pub const TABLES_END: u64 = 16_384;
 
@@ -58,6 +64,7 @@ pub fn areas_promised()
     ensures identity { IDENTITY ≡ identity_area }
     ensures agreeing { AGREEING ≡ agreeing_area }
     ensures rest { REST ≡ rest_area }
+    ensures kept { KEPT ≡ kept_area }
     ensures end { TABLES_END ≡ 16384 }
     ensures apart { AreasApart }
     ensures hold { AreasHold }

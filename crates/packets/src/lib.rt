@@ -8,6 +8,7 @@ pub mod bundle;
 pub mod bytes;
 pub mod fault;
 mod frame;
+pub mod directory;
 pub mod identity;
 pub mod lay;
 mod list;

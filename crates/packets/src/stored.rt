@@ -1,11 +1,12 @@
 // What a copy stores, from all of its bytes; `encode` gives them.
 ghost use Rattle.std.specs.Prelude.{◌≡◌};
 ghost use Rattle.packets.specs.Codecs.{Gives, Puts, SoundWhole, whole};
-ghost use Rattle.packets.specs.Formats.{Identity as IdentitySaid, mark, identity, agreeing, session, rest};
+ghost use Rattle.packets.specs.Formats.{Identity as IdentitySaid, Directory as DirectorySaid, mark, identity, directory, agreeing, session, rest};
 ghost use Rattle.copies.specs.Views.{the_agreeing, the_session};
-ghost use Rattle.packets.specs.Seen.{see_identity, see_rest};
+ghost use Rattle.packets.specs.Seen.{see_identity, see_directory, see_rest};
 
 use crate::bytes::Bytes;
+use crate::directory::Directory;
 use crate::fault::*;
 use crate::identity::Identity;
 use crate::rest::Rest;
@@ -31,6 +32,7 @@ impl Bytes for Identity {
         MARK.put(out)?;
         self.house.0.put(out)?;
         self.houses.put(out)?;
+        self.size.put(out)?;
         self.incarnation.put(out)
     }
 
@@ -42,10 +44,12 @@ impl Bytes for Identity {
         }
         let (house, rest) = u64::take(heap, rest)?;
         let (houses, rest) = u64::take(heap, rest)?;
+        let (size, rest) = u64::take(heap, rest)?;
         let (incarnation, rest) = u64::take(heap, rest)?;
         let identity = Identity {
             house: HouseNumber(house),
             houses,
+            size,
             incarnation,
         };
         Ok((identity, rest))
@@ -58,6 +62,35 @@ pub fn decode_identity(heap: Global, bytes: &[u8]) -> Result<Identity, Unread>
     ensures sound { SoundWhole identity }
 {
     decode::<Identity>(heap, bytes)
+}
+
+impl Bytes for Directory {
+    ghost View = { DirectorySaid };
+
+    ghost view = { see_directory };
+
+    ghost codec = { directory };
+
+    #[tactic(auto, unfolding(crate::specs::Formats::directory))]
+    fn put(&self, out: &mut Vec<u8>) -> Result<(), Unsent> {
+        self.generation.put(out)?;
+        self.floor.put(out)
+    }
+
+    #[tactic(auto, unfolding(crate::specs::Formats::directory))]
+    fn take(heap: Global, bytes: &[u8]) -> Result<(Directory, &[u8]), Unread> {
+        let (generation, rest) = u64::take(heap, bytes)?;
+        let (floor, rest) = u64::take(heap, rest)?;
+        Ok((Directory { generation, floor }, rest))
+    }
+}
+
+#[tactic(auto, using(crate::proofs::Formats::directories))]
+pub fn decode_directory(heap: Global, bytes: &[u8]) -> Result<Directory, Unread>
+    ensures value { Gives see_directory result (whole directory bytes.now) }
+    ensures sound { SoundWhole directory }
+{
+    decode::<Directory>(heap, bytes)
 }
 
 #[tactic(auto, using(crate::proofs::Formats::agreeings))]
