@@ -6,13 +6,16 @@ use memory_disk::random::Random;
 use octets::{BLANK_SECTOR, SECTOR_BYTES};
 use pieces::changed::Key;
 use pieces::entry::{Block, Stamp};
-use pieces::layout::{LEAST_SIZE, Layout};
+use pieces::generation::Generation;
+use pieces::layout::{LEAST_SIZE, Layout, SECTOR_ENTRIES};
+use pieces::living::Living;
 use pieces::pieces::block_of;
 use pieces::set::{Unset, Writes};
 use pieces::state::Pieces;
 use std::alloc::Global;
 use std::collections::BTreeMap;
 use std::fmt;
+use volumes::head::Head;
 use wire::number::*;
 
 const WRONG: &str = "the directory isn't what the map is";
@@ -28,6 +31,7 @@ pub struct Counts {
     sets: u64,
     forgotten: u64,
     opened: u64,
+    begun: u64,
     compared: u64,
 }
 
@@ -35,8 +39,8 @@ impl fmt::Display for Counts {
     fn fmt<W: fmt::Write>(&self, f: &mut fmt::Formatter<W>) -> fmt::Result {
         write!(
             f,
-            "sectors set {}, volumes forgotten {}, opened {}, sectors compared {}",
-            self.sets, self.forgotten, self.opened, self.compared
+            "sectors set {}, volumes forgotten {}, opened {}, begun again {}, sectors compared {}",
+            self.sets, self.forgotten, self.opened, self.begun, self.compared
         )
     }
 }
@@ -58,10 +62,22 @@ struct Trial {
     model: Model,
     // by volume and block: when it last changed
     stamps: BTreeMap<(u64, u64), u64>,
-    lives: Vec<Volume>,
+    generation: u64,
+    // the next volume's number, and those that live
+    next: u64,
+    heads: Vec<Head>,
     version: u64,
     floor: Stamp,
     counts: Counts,
+}
+
+fn head(volume: u64) -> Head {
+    Head {
+        number: Volume(volume),
+        size: Size(LEAST_SIZE),
+        token: Token(0),
+        used: 0,
+    }
 }
 
 fn layout() -> anyhow::Result<Layout>
@@ -84,7 +100,9 @@ impl Trial {
             data,
             model: BTreeMap::new(heap),
             stamps: BTreeMap::new(heap),
-            lives: Vec::new(heap),
+            generation: 0,
+            next: 1,
+            heads: Vec::new(heap),
             version: 0,
             floor: Stamp(0),
             counts: Counts::default(),
@@ -98,11 +116,13 @@ impl Trial {
             *at = byte;
         }
         if let Some(entry) = writes.entry {
-            let number = entry as u64 / 8;
+            let number = entry as u64 / SECTOR_ENTRIES;
             if number >= self.pieces.layout().directory_sectors() {
                 return Err(anyhow!("{WRONG}"));
             }
-            let rendered = self.pieces.directory_sector(number);
+            let rendered = self
+                .pieces
+                .directory_sector(number, Generation(self.generation));
             let at = self
                 .directory
                 .get_mut(number as usize)
@@ -161,6 +181,10 @@ impl Trial {
         let heap = self.heap;
         let mut pieces = Pieces::new(heap, layout()?)?;
         pieces.raise_floor(self.floor);
+        let living = Living {
+            next: self.next,
+            heads: self.heads.as_slice(),
+        };
         for number in 0..pieces.layout().directory_sectors() {
             let sector = self
                 .directory
@@ -168,7 +192,7 @@ impl Trial {
                 .ok_or(anyhow!("{WRONG}"))?;
             if number < pieces.layout().directory_sectors()
                 && pieces
-                    .load_sector(heap, number, sector, self.lives.as_slice())
+                    .load_sector(heap, number, sector, Generation(self.generation), living)
                     .is_err()
             {
                 return Err(anyhow!("what was written isn't loaded"));
@@ -193,16 +217,36 @@ impl Trial {
         Ok(())
     }
 
-    // A volume is gone; nothing is written.
-    fn forget(&mut self, index: usize, next: Volume) -> anyhow::Result<()> {
-        let at = self.lives.get_mut(index).ok_or(anyhow!("{WRONG}"))?;
-        let gone = *at;
-        *at = next;
+    // A volume more lives.
+    fn make(&mut self) -> anyhow::Result<Volume> {
+        let head = head(self.next);
+        count(&mut self.next);
+        self.heads.push(head)?;
+        Ok(head.number)
+    }
+
+    // A volume is gone, and another lives; nothing is written.
+    fn forget(&mut self, index: usize) -> anyhow::Result<()> {
+        let at = self.heads.get_mut(index).ok_or(anyhow!("{WRONG}"))?;
+        let gone = at.number;
+        *at = head(self.next);
+        count(&mut self.next);
         self.pieces.forget(gone);
         self.model.retain(|key, _| key.0 != gone.0);
         self.stamps.retain(|key, _| key.0 != gone.0);
         count(&mut self.counts.forgotten);
         Ok(())
+    }
+
+    // All begins again from nothing, under the next generation; nothing is written.
+    fn begin_again(&mut self) -> anyhow::Result<()> {
+        self.generation = self.generation.saturating_add(1);
+        self.pieces = Pieces::new(self.heap, layout()?)?;
+        self.model = BTreeMap::new(self.heap);
+        self.stamps = BTreeMap::new(self.heap);
+        self.floor = Stamp(0);
+        count(&mut self.counts.begun);
+        self.open()
     }
 
     // How many blocks are listed as changed after a version; each with the stamp that it has.
@@ -262,18 +306,19 @@ fn drawn(random: &mut Random) -> u64 {
 pub fn random(heap: Global, seed: u64, steps: u64) -> anyhow::Result<Counts> {
     let mut random = Random::new(seed);
     let mut trial = Trial::new(heap)?;
-    for volume in 1..=VOLUMES {
-        trial.lives.push(Volume(volume))?;
+    for _ in 0..VOLUMES {
+        trial.make()?;
     }
-    for step in 0..steps {
+    for _ in 0..steps {
         let index = random.below(VOLUMES) as usize;
-        let volume = trial.lives.get(index).copied().ok_or(anyhow!("{WRONG}"))?;
-        match random.below(200) {
-            0 => {
+        let volume = trial.heads.get(index).ok_or(anyhow!("{WRONG}"))?.number;
+        match random.below(800) {
+            0..=3 => {
                 trial.open()?;
                 trial.compare()?;
             }
-            1 => trial.forget(index, Volume(step.saturating_add(100)))?,
+            4..=7 => trial.forget(index)?,
+            8 => trial.begin_again()?,
             _ => {
                 let at = address(volume, drawn(&mut random));
                 let byte = (random.below(4) & 0xff) as u8;
@@ -295,7 +340,7 @@ pub fn dense(heap: Global) -> anyhow::Result<(u64, u64)>
     ensures { IfOk result (λ p. p.0 ≡ 31744) }
 {
     let mut trial = Trial::new(heap)?;
-    trial.lives.push(Volume(1))?;
+    trial.make()?;
     let places = trial.pieces.layout().places();
     for sector in 0..places {
         if !trial.set(address(Volume(1), sector), 7)? {
@@ -321,8 +366,8 @@ pub fn dense(heap: Global) -> anyhow::Result<(u64, u64)>
 // One sector in each piece, until there is no room; then some are zeros, and another volume's take their entries.
 pub fn sparse(heap: Global) -> anyhow::Result<(u64, u64)> {
     let mut trial = Trial::new(heap)?;
-    trial.lives.push(Volume(1))?;
-    trial.lives.push(Volume(2))?;
+    trial.make()?;
+    trial.make()?;
     let places = trial.pieces.layout().places();
     for piece in 0..places {
         if !trial.set(address(Volume(1), piece.wrapping_mul(8192)), 7)? {
