@@ -1,15 +1,10 @@
 -- Entries are loaded one after the other.
-use Rattle.std.proofs.Common.{◌≡◌, ℕ, zero, suc, ◌+◌, ◌-◌, ◌*◌, ◌<◌, ◌≤◌, Bool, true, false, cond, List, [], ◌∷◌, ◌++◌, length, get_or, take, drop, replicate, Some, None, Option, refl, sym, ap, ◌∙◌, subst, arith, add-zero, length-set, length-append, length-take, length-drop}
-use Rattle.std.specs.List.{flat_map}
-use Rattle.std.proofs.lemmas.List.{drop_more, drop_all, drop-drop, take_at, drop_at, get_or-take, get_or-drop}
+use Rattle.std.proofs.Common.{◌≡◌, ℕ, zero, suc, ◌+◌, ◌-◌, ◌*◌, ◌<◌, ◌≤◌, Bool, true, false, cond, List, [], ◌∷◌, ◌++◌, length, get_or, take, drop, replicate, Some, None, Option, refl, sym, ap, ◌∙◌, arith, add-zero, length-set}
+use Rattle.std.proofs.lemmas.List.{drop_more, drop_all, drop-drop}
 use Rattle.pieces.specs.declared.entry.Entry.{Entry}
 use Rattle.pieces.specs.Entries.{entry_of, free_entry, is_block_number}
-use Rattle.pieces.specs.Kept.{Kept, index_of, entry_at}
-use Rattle.pieces.specs.Loads.{entries_in, take_all, restored, restores_of, restores, load_entry, then_load, load_entries, sector_bytes}
-use Rattle.octets.specs.Numbers.{numbers_bytes}
-use Rattle.octets.proofs.Numbers.{length-bytes_of}
-use Rattle.octets.proofs.Fields.{length-numbers}
-use Rattle.pieces.proofs.Bytes.{read_back}
+use Rattle.pieces.specs.Kept.{Kept, index_of}
+use Rattle.pieces.specs.Loads.{entries_in, take_all, restored, restores_of, restores, load_entry, then_load, load_entries}
 
 pub long_entries : (n : ℕ) (bs : List ℕ) → length (entries_in n bs) ≡ n
 unfolding entries_in

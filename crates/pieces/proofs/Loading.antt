@@ -1,5 +1,5 @@
 -- Loading a directory, entry by entry: of volumes that live it shows what was kept, and others are zeros.
-use Rattle.std.proofs.Common.{◌≡◌, ◌≢◌, ◌⊎◌, inl, inr, ℕ, zero, suc, ◌+◌, ◌/◌, ◌%◌, ◌<◌, ◌≤◌, Bool, true, false, cond, ◌==◌, List, [], ◌∷◌, length, get_or, drop, Some, None, Option, refl, sym, ap, ◌∙◌, subst, arith, add-zero, length-drop}
+use Rattle.std.proofs.Common.{◌≡◌, ◌≢◌, ◌⊎◌, inl, inr, ℕ, suc, ◌+◌, ◌/◌, ◌%◌, ◌<◌, ◌≤◌, Bool, true, false, cond, ◌==◌, List, [], ◌∷◌, length, get_or, drop, Some, None, Option, refl, sym, ap, ◌∙◌, subst, arith, add-zero, length-drop}
 use Rattle.std.proofs.lemmas.List.{get_or_past, get_or-drop, drop-drop}
 use Rattle.std.proofs.lemmas.Bool.{eqb-true, ne_eqb, cases_lt, and_left}
 use Rattle.pieces.specs.declared.entry.Entry.{Entry}

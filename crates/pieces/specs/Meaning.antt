@@ -1,12 +1,12 @@
 -- What the directory means, and when it is sound.
 -- Assumes nothing.
-use Rattle.std.specs.Prelude.{◌≡◌, ◌≢◌, ◌⊎◌, ℕ, zero, suc, ◌+◌, ◌*◌, ◌/◌, ◌<◌, ◌≤◌, max, Bool, true, false, cond, List, ◌++◌, take, drop, length, ◌==◌, nat_lt, Some, None, Option, slice_index_or}
+use Rattle.std.specs.Prelude.{◌≡◌, ◌≢◌, ℕ, zero, suc, ◌/◌, ◌<◌, ◌≤◌, max, Bool, true, false, cond, List, length, ◌==◌, nat_lt, Some, None, Option, slice_index_or}
 use Rattle.std.specs.List.{sum_by, count_by, list_all}
 use Rattle.disks.specs.Device.{zeros}
 use Rattle.pieces.specs.declared.entry.Entry.{Entry}
-use Rattle.pieces.specs.Entries.{is_block, free_entry, FitsBytes}
+use Rattle.pieces.specs.Entries.{is_block, free_entry}
 use Rattle.pieces.specs.Layouts.{places_of, entries_of}
-use Rattle.pieces.specs.Kept.{Kept, blank_kept, index_of, entry_at, place_of, stamp_of, WasSet, sets, forgotten, raised}
+use Rattle.pieces.specs.Kept.{Kept, blank_kept, index_of, entry_at, place_of, stamp_of, WasSet, sets, forgotten}
 
 -- is this place used?
 abbrev pub use_of : (place : ℕ) → ℕ → ℕ

@@ -1,4 +1,4 @@
-use Rattle.std.proofs.Common.{◌≡◌, ◌+◌, ◌*◌, ◌-◌, ◌++◌, ◌<◌, ℕ, List, length, take, drop, replicate, ap, sym, ◌∙◌, arith, rules, vec_items}
+use Rattle.std.proofs.Common.{◌≡◌, ◌+◌, ◌*◌, ◌-◌, ◌++◌, ◌<◌, ℕ, length, take, drop, replicate, ap, sym, ◌∙◌, arith, rules, vec_items}
 use Rattle.std.specs.List.{flat_map}
 use Rattle.std.proofs.lemmas.List.{take_all}
 use Rattle.disks.specs.Device.{zeros}
