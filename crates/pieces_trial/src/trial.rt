@@ -340,8 +340,8 @@ pub fn dense(heap: Global) -> anyhow::Result<(u64, u64)>
     ensures { IfOk result (λ p. p.0 ≡ 31744) }
 {
     let mut trial = Trial::new(heap)?;
-    trial.make()?;
     let places = trial.pieces.layout().places();
+    trial.make()?;
     for sector in 0..places {
         if !trial.set(address(Volume(1), sector), 7)? {
             return Err(anyhow!("it is full too early"));
