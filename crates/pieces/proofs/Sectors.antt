@@ -1,9 +1,9 @@
 -- A sector of the directory as bytes: its generation, zeros, and entry behind entry. What it was written as is what is read under its
 -- generation; under another it has free entries.
-use Rattle.std.proofs.Common.{◌≡◌, ℕ, suc, ◌+◌, ◌*◌, ◌^◌, ◌<◌, ◌≤◌, Bool, true, false, cond, ◌==◌, List, [], ◌∷◌, ◌++◌, length, get_or, take, drop, replicate, Some, refl, sym, ap, ◌∙◌, subst, append_assoc, append-nil, arith, length-append, length-take, length-drop}
+use Rattle.std.proofs.Common.{◌≡◌, ℕ, zero, suc, ◌+◌, ◌*◌, ◌^◌, ◌<◌, ◌≤◌, Bool, true, false, cond, ◌==◌, List, [], ◌∷◌, ◌++◌, length, get_or, take, drop, replicate, Some, refl, sym, ap, ◌∙◌, subst, append_assoc, append-nil, arith, length-append, length-take, length-drop}
 use borrow.Rule.Slice.PartMut.{put_mid}
 use Rattle.std.specs.List.{flat_map}
-use Rattle.std.proofs.lemmas.List.{take_at, drop_at, take_more, get_or-take, get_or-drop, flat_map_more, length-replicate}
+use Rattle.std.proofs.lemmas.List.{take_at, drop_at, take_more, get_or-take, get_or-drop, flat_map_more, length-replicate, get_or_append_left, get_or-append-add}
 use Rattle.std.proofs.lemmas.Bool.{eq-eqb, ne_eqb}
 use Rattle.disks.specs.Device.{zeros}
 use Rattle.octets.specs.Numbers.{big, bytes_of, field, numbers_bytes}
@@ -12,9 +12,10 @@ use Rattle.octets.proofs.Fields.{length-numbers, big_eight}
 use Rattle.pieces.specs.declared.entry.Entry.{Entry}
 use Rattle.pieces.specs.Entries.{entry_bytes, entry_of, five_bytes, free_entry, FitsBytes}
 use Rattle.pieces.specs.Kept.{Kept, entry_at}
-use Rattle.pieces.specs.Loads.{entries_in, sector_bytes, sector_entries, load_entries}
+use Rattle.pieces.specs.Loads.{entries_in, sector_bytes, sector_entries, directory_entries, then_load, load_entries}
+use Rattle.pieces.proofs.Blank.{defaults}
 use Rattle.pieces.proofs.Bytes.{laid_on, read_back}
-use Rattle.pieces.proofs.LoadSteps.{long_entries, load_free}
+use Rattle.pieces.proofs.LoadSteps.{long_entries, load_append, load_free}
 
 -- IT IS WRITTEN
 -- the generation, onto zeros
@@ -96,3 +97,17 @@ seven_entries g bs = go (field 0 bs == g)
     go : (b : Bool) → length (cond b (entries_in 7 (drop 64 bs)) (replicate 7 free_entry)) ≡ 7
     go true = long_entries 7 (drop 64 bs)
     go false = refl
+
+-- ALL SECTORS
+pub sector_entry : (g j i : ℕ) (bss : List (List ℕ)) → i < 7 → get_or (directory_entries g bss) (7 * j + i) free_entry ≡ get_or (sector_entries g (get_or bss j (zeros 512))) i free_entry
+sector_entry g j i [] l = sym (ap (λ (es : List Entry). get_or es i free_entry) (sector_blank g) ∙ defaults 7 free_entry i)
+sector_entry g zero i (bs ∷ bss) l =
+    let first : 7 * 0 + i ≡ i = omega arith in
+    ap (λ (n : ℕ). get_or (directory_entries g (bs ∷ bss)) n free_entry) first ∙ get_or_append_left (sector_entries g bs) (directory_entries g bss) free_entry i (omega (arith, seven_entries g bs))
+sector_entry g (suc j) i (bs ∷ bss) l =
+    let further : 7 * suc j + i ≡ length (sector_entries g bs) + (7 * j + i) = omega (arith, seven_entries g bs) in
+    ap (λ (n : ℕ). get_or (directory_entries g (bs ∷ bss)) n free_entry) further ∙ get_or-append-add (sector_entries g bs) (directory_entries g bss) (7 * j + i) free_entry ∙ sector_entry g j i bss l
+
+pub sectors_more : (lives : ℕ → Bool) (g i : ℕ) (bs : List ℕ) (bss : List (List ℕ)) (k : Kept) → load_entries lives i (directory_entries g (bs ∷ bss)) k ≡ then_load (load_entries lives (i + 7) (directory_entries g bss)) (load_entries lives i (sector_entries g bs) k)
+sectors_more lives g i bs bss k =
+    load_append lives i (sector_entries g bs) (directory_entries g bss) k ∙ ap (λ (n : ℕ). then_load (load_entries lives (i + n) (directory_entries g bss)) (load_entries lives i (sector_entries g bs) k)) (seven_entries g bs)

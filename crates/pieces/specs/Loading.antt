@@ -1,12 +1,12 @@
 -- What loading a directory gives.
 -- Assumes nothing.
-use Rattle.std.specs.Prelude.{◌≡◌, ◌⊎◌, ℕ, suc, ◌+◌, ◌*◌, ◌^◌, ◌<◌, ◌≤◌, Bool, true, false, cond, List, ◌++◌, take, drop, replicate, length, Some, slice_index_or}
+use Rattle.std.specs.Prelude.{◌≡◌, ◌⊎◌, ℕ, suc, ◌+◌, ◌*◌, ◌^◌, ◌<◌, ◌≤◌, Bool, true, false, cond, List, ◌∷◌, ◌++◌, take, drop, replicate, length, Some, slice_index_or}
 use Rattle.disks.specs.Device.{zeros}
 use Rattle.pieces.specs.declared.entry.Entry.{Entry}
 use Rattle.pieces.specs.Entries.{free_entry, is_block_number, FitsBytes}
 use Rattle.pieces.specs.Layouts.{entries_of}
-use Rattle.pieces.specs.Kept.{Kept, blank_kept, entry_at, stamp_of, WasSet, forgotten, raised}
-use Rattle.pieces.specs.Loads.{load_entries, then_load, sector_bytes, sector_entries}
+use Rattle.pieces.specs.Kept.{Kept, blank_kept, entry_at, stamp_of, WasSet, forgotten, raised, sets, vacated}
+use Rattle.pieces.specs.Loads.{load_entries, then_load, sector_bytes, sector_entries, directory_entries}
 use Rattle.pieces.specs.Meaning.{Sound, SetsOne, shown}
 
 -- an entry as it is loaded when these volumes live
@@ -59,7 +59,17 @@ pub record LoadsSectors : Type 0 where
   pub sector : (g j : ℕ) (k : Kept) → g < 2 ^ 64 → ((i : ℕ) → FitsBytes (entry_at i k)) → 7 * j + 7 ≤ length k.entries → sector_entries g (sector_bytes g j k) ≡ take 7 (drop (7 * j) k.entries)
   pub other : (g h j : ℕ) (k : Kept) → g < 2 ^ 64 → (g ≡ h → ⊥) → sector_entries h (sector_bytes g j k) ≡ replicate 7 free_entry
   pub blank : (g : ℕ) → sector_entries g (zeros 512) ≡ replicate 7 free_entry
+  -- the entries of all sectors are theirs, one sector behind the other, and are loaded so
+  pub entry : (g j i : ℕ) (bss : List (List ℕ)) → i < 7 → slice_index_or (directory_entries g bss) (7 * j + i) free_entry ≡ slice_index_or (sector_entries g (slice_index_or bss j (zeros 512))) i free_entry
+  pub more : (lives : ℕ → Bool) (g i : ℕ) (bs : List ℕ) (bss : List (List ℕ)) (k : Kept) → load_entries lives i (directory_entries g (bs ∷ bss)) k ≡ then_load (load_entries lives (i + 7) (directory_entries g bss)) (load_entries lives i (sector_entries g bs) k)
   pub free : (lives : ℕ → Bool) (i n : ℕ) (k : Kept) → lives 0 ≡ false → load_entries lives i (replicate n free_entry) k ≡ Some k
+
+-- Entries stay of blocks that a volume can have: what is loaded is refused else, and what is set is of a sector that a volume can have.
+pub record StaysInRange : Type 0 where
+  pub blank : (size : ℕ) → BlocksInRange (blank_kept size)
+  pub loaded : (lives : ℕ → Bool) (i : ℕ) (es : List Entry) (k m : Kept) → BlocksInRange k → load_entries lives i es k ≡ Some m → BlocksInRange m
+  pub set : (v n w : ℕ) (blank : Bool) (k : Kept) (r : WasSet) → n < 1099511627776 → BlocksInRange k → sets v n blank w k ≡ Some r → BlocksInRange r.kept
+  pub vacated : (i : ℕ) (k : Kept) → BlocksInRange k → BlocksInRange (vacated i k)
 
 -- What is on the device stays what is kept: when a sector was set and its entry's sector written, when a volume is gone, when fewer live, and
 -- when all begins again, under a generation of which no sector is.

@@ -21,6 +21,10 @@ entries_in (suc c) bs = entry_of (take 64 bs) ∷ entries_in c (drop 64 bs)
 abbrev pub sector_entries : (generation : ℕ) → List ℕ → List Entry
 sector_entries g bs = cond (field 0 bs == g) (entries_in 7 (drop 64 bs)) (replicate 7 free_entry)
 
+-- and all sectors
+abbrev pub directory_entries : (generation : ℕ) → List (List ℕ) → List Entry
+directory_entries g bss = flat_map (sector_entries g) bss
+
 -- a place is taken, if it is there and free
 abbrev pub is_left : ℕ → List Bool → Bool
 is_left p ts = nat_lt p (length ts) && not (slice_index_or ts p false)

@@ -1,7 +1,7 @@
 // The directory as it is on the device: sectors of seven entries each, behind their generation.
 ghost use Rattle.std.specs.Prelude.{◌≡◌, ◌+◌, ◌*◌, ◌≤◌, ◌<◌, length, Some, None, IfOk, OnOk, take, drop, MatchOption, OnErr, IfErr};
 ghost use Rattle.pieces.specs.declared.load.Unloaded.TheVariants.{NoMemory, Broken};
-ghost use Rattle.pieces.specs.Loading.{LoadMeans, LoadSame, LoadsSectors, StaysOnDevice};
+ghost use Rattle.pieces.specs.Loading.{LoadMeans, LoadSame, LoadsSectors, StaysInRange, StaysOnDevice};
 ghost use Rattle.volumes.specs.Service.{is_living};
 ghost use Rattle.pieces.specs.Kept.{the_kept, index_of, raised};
 ghost use Rattle.pieces.specs.Layouts.{directory_sectors_of};
@@ -111,6 +111,7 @@ impl Pieces {
         ensures means { LoadMeans }
         ensures same { LoadSame }
         ensures sectors { LoadsSectors }
+        ensures range { StaysInRange }
         ensures stays { StaysOnDevice }
         ensures layout { self.new.layout ≡ self.old.layout }
     {
