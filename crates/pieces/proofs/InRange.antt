@@ -1,11 +1,11 @@
 -- All entries stay of blocks that a volume can have.
-use Rattle.std.proofs.Common.{◌≡◌, ◌⊎◌, inl, inr, ℕ, zero, suc, ◌+◌, ◌/◌, ◌%◌, ◌<◌, ◌≤◌, Bool, true, false, cond, List, [], ◌∷◌, length, get_or, set, Some, None, Option, refl, sym, ap, ◌∙◌, subst, arith, length-set}
+use Rattle.std.proofs.Common.{◌≡◌, ◌⊎◌, inl, inr, ℕ, zero, suc, ◌+◌, ◌/◌, ◌%◌, ◌<◌, ◌≤◌, Bool, true, false, cond, List, [], ◌∷◌, length, get_or, set, Some, None, Option, refl, ap, ◌∙◌, subst, arith, length-set}
 use Rattle.std.proofs.lemmas.List.{get_or-set_same, get_or-set_other, get_or_past}
 use Rattle.std.proofs.lemmas.Bool.{cases_eq, cases_lt, lt-ltb}
 use Rattle.pieces.specs.declared.entry.Entry.{Entry}
 use Rattle.pieces.specs.Entries.{free_entry, marker, is_block_number}
 use Rattle.pieces.specs.Layouts.{entries_of}
-use Rattle.pieces.specs.Kept.{Kept, Claim, WasSet, blank_kept, index_of, entry_at, vacant, with_place, puts_place, frees_place, claims_entry, claims_new, claims_of, claims, sets_blank, sets_bytes, place_for, sets, cleared, vacated}
+use Rattle.pieces.specs.Kept.{Kept, Claim, WasSet, index_of, entry_at, vacant, with_place, puts_place, frees_place, claims_entry, claims_new, claims_of, claims, sets_blank, sets_bytes, place_for, sets, cleared, vacated}
 use Rattle.pieces.specs.Loads.{take_all, restored, restores_of, restores, load_entry, then_load, load_entries}
 use Rattle.pieces.specs.Loading.{BlocksInRange, StaysInRange}
 use Rattle.pieces.proofs.Blank.{defaults}
