@@ -17,7 +17,7 @@ pub const MOST_WRITES: usize = 1600;
 pub const SLOT_SECTORS: u64 = 3200;
 
 // The first sector behind the two slots; from there on all is guarded by the journal. On the smallest device, of 65,536 sectors, 59,136 are
-// left, and a house needs 36,892 of them: twice the room for data (31,744), the directory (3,968) and its tables (1,180).
+// left, and a house needs 37,459 of them: twice the room for data (31,744), the directory (4,535) and its tables (1,180).
 pub const GUARDED: u64 = 6400;
 
 // Numbers of records stay below this.

@@ -98,7 +98,7 @@ pub agrees_changed : (ps : List Piece) (es : List Entry) (i s p w : ℕ) → Agr
 agrees_changed ps es i s p w a u c = a u c ∙ sym (ap as_word (position-set_same (is_block (suc u) c) es i (with_place s p w (get_or es i free_entry)) free_entry refl))
 
 -- THE SAME, of entries as the code reads them
-read_as : (es : List Entry) (i : ℕ) (d : Entry) → i < length es → d ≡ get_or es i d → d ≡ get_or es i free_entry
+pub read_as : (es : List Entry) (i : ℕ) (d : Entry) → i < length es → d ≡ get_or es i d → d ≡ get_or es i free_entry
 read_as es i d l e = e ∙ get_or_default es i d free_entry l
 
 pub changed_invariants : (ps : List Piece) (es : List Entry) (i s p w : ℕ) (d y : Entry) → i < length es → d ≡ get_or es i d → y ≡ with_place s p w d → IsSingle es → Agrees ps es → Agrees ps (set es i y) × IsSingle (set es i y)

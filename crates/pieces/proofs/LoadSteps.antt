@@ -1,15 +1,10 @@
--- Entries are loaded one after the other; what a sector of them was written as is what is read.
-use Rattle.std.proofs.Common.{◌≡◌, ℕ, zero, suc, ◌+◌, ◌*◌, ◌<◌, ◌≤◌, Bool, true, false, cond, List, [], ◌∷◌, ◌++◌, length, get_or, take, drop, Some, None, Option, refl, sym, ap, ◌∙◌, subst, arith, add-zero, length-set, length-append, length-take, length-drop}
-use Rattle.std.specs.List.{flat_map}
-use Rattle.std.proofs.lemmas.List.{drop_more, drop_all, drop-drop, take_at, drop_at, get_or-take, get_or-drop}
+-- Entries are loaded one after the other.
+use Rattle.std.proofs.Common.{◌≡◌, ℕ, zero, suc, ◌+◌, ◌-◌, ◌*◌, ◌<◌, ◌≤◌, Bool, true, false, cond, List, [], ◌∷◌, ◌++◌, length, get_or, take, drop, replicate, Some, None, Option, refl, sym, ap, ◌∙◌, arith, add-zero, length-set}
+use Rattle.std.proofs.lemmas.List.{drop_more, drop_all, drop-drop}
 use Rattle.pieces.specs.declared.entry.Entry.{Entry}
-use Rattle.pieces.specs.Entries.{entry_bytes, entry_of, five_bytes, free_entry, FitsBytes}
-use Rattle.pieces.specs.Kept.{Kept, index_of, entry_at}
-use Rattle.pieces.specs.Loads.{entries_in, take_all, restored, restores_of, restores, load_entry, then_load, load_entries, sector_bytes}
-use Rattle.octets.specs.Numbers.{numbers_bytes}
-use Rattle.octets.proofs.Numbers.{length-bytes_of}
-use Rattle.octets.proofs.Fields.{length-numbers}
-use Rattle.pieces.proofs.Bytes.{read_back}
+use Rattle.pieces.specs.Entries.{entry_of, free_entry, is_block_number}
+use Rattle.pieces.specs.Kept.{Kept, index_of}
+use Rattle.pieces.specs.Loads.{entries_in, take_all, restored, restores_of, restores, load_entry, then_load, load_entries}
 
 pub long_entries : (n : ℕ) (bs : List ℕ) → length (entries_in n bs) ≡ n
 unfolding entries_in
@@ -23,6 +18,12 @@ entry_in (suc n) zero bs l = refl
 entry_in (suc n) (suc i) bs l =
     let further : 64 * suc i ≡ 64 + 64 * i = omega arith in
     entry_in n i (drop 64 bs) (omega arith) ∙ ap (λ (xs : List ℕ). entry_of (take 64 xs)) (drop-drop (64 * i) 64 bs ∙ ap (λ (k : ℕ). drop k bs) (sym further))
+
+-- the entry in the i-th part behind the generation
+pub part_read : (n i : ℕ) (bs : List ℕ) (e : Entry) → i < n → e ≡ entry_of (take (64 + 64 * i + 64 - (64 + 64 * i)) (drop (64 + 64 * i) bs)) → e ≡ get_or (entries_in n (drop 64 bs)) i free_entry
+part_read n i bs e l read =
+    let part : 64 + 64 * i + 64 - (64 + 64 * i) ≡ 64 = omega arith in
+    read ∙ ap (λ (w : ℕ). entry_of (take w (drop (64 + 64 * i) bs))) part ∙ ap (λ (xs : List ℕ). entry_of (take 64 xs)) (sym (drop-drop (64 * i) 64 bs)) ∙ sym (entry_in n i (drop 64 bs) l)
 
 some_same : (k m : Kept) → Some k ≡ Some m → k ≡ m
 some_same k m e = cc
@@ -40,11 +41,12 @@ long_restores None i e k m q = long_restored i e k m (take_all e.places k.taken)
 
 pub long_load : (lives : ℕ → Bool) (i : ℕ) (e : Entry) (k m : Kept) → load_entry lives i e k ≡ Some m → length m.entries ≡ length k.entries
 unfolding restores
-long_load lives i e k m q = go (lives e.volume.0) q
+long_load lives i e k m q = go (lives e.volume.0) (is_block_number e.block.0) q
   where
-    go : (b : Bool) → cond b (restores_of (index_of e.volume.0 e.block.0 k.entries) i e k) (Some k) ≡ Some m → length m.entries ≡ length k.entries
-    go true h = long_restores (index_of e.volume.0 e.block.0 k.entries) i e k m h
-    go false h = sym (ap (λ (z : Kept). length z.entries) (some_same k m h))
+    go : (b c : Bool) → cond b (cond c (restores_of (index_of e.volume.0 e.block.0 k.entries) i e k) None) (Some k) ≡ Some m → length m.entries ≡ length k.entries
+    go true true h = long_restores (index_of e.volume.0 e.block.0 k.entries) i e k m h
+    go true false h = none_some m h
+    go false c h = sym (ap (λ (z : Kept). length z.entries) (some_same k m h))
 
 pub load_more : (lives : ℕ → Bool) (base i : ℕ) (es : List Entry) (e : Entry) (k m : Kept) (r : Option Kept) → i < length es → e ≡ get_or es i free_entry → load_entry lives (base + i) e k ≡ Some m → load_entries lives (base + i) (drop i es) k ≡ r → load_entries lives (base + (i + 1)) (drop (i + 1) es) m ≡ r
 unfolding load_entries
@@ -71,34 +73,14 @@ load_append lives i (x ∷ xs) ys k = go (load_entry lives i x k) (load_append l
     go None ih = refl
     go (Some m) ih = ih m ∙ ap (λ (n : ℕ). then_load (load_entries lives n ys) (load_entries lives (i + 1) xs m)) far
 
--- A SECTOR IS READ BACK
-long_five : (ps : List ℕ) → length (flat_map five_bytes ps) ≡ 5 * length ps
-long_five [] = refl
-long_five (p ∷ ps) = omega (arith, length-append (five_bytes p) (flat_map five_bytes ps), length-bytes_of 5 p, long_five ps)
-
-pub long_entry : (e : Entry) → FitsBytes e → length (entry_bytes e) ≡ 64
-unfolding entry_bytes
-long_entry e f =
-    let ns : List ℕ = e.volume.0 ∷ e.block.0 ∷ e.stamp.0 ∷ [] in
-    omega (arith, length-append (numbers_bytes ns) (flat_map five_bytes e.places), length-numbers ns, long_five e.places, f.eight)
-
-entries_back : (es : List Entry) → ((i : ℕ) → i < length es → FitsBytes (get_or es i free_entry)) → entries_in (length es) (flat_map entry_bytes es) ≡ es
-unfolding entries_in
-entries_back [] h = refl
-entries_back (e ∷ es) h =
-    let long : length (entry_bytes e) ≡ 64 = long_entry e (h 0 (omega arith)) in
-    let first : take 64 (entry_bytes e ++ flat_map entry_bytes es) ≡ entry_bytes e = take_at (entry_bytes e) (flat_map entry_bytes es) 64 long in
-    let rest : drop 64 (entry_bytes e ++ flat_map entry_bytes es) ≡ flat_map entry_bytes es = drop_at (entry_bytes e) (flat_map entry_bytes es) 64 long in
-    rw (first, rest, read_back e (h 0 (omega arith)), entries_back es (λ i l. h (suc i) (omega arith))) refl
-
-pub sector_back : (j : ℕ) (k : Kept) → ((i : ℕ) → FitsBytes (entry_at i k)) → 8 * j + 8 ≤ length k.entries → entries_in 8 (sector_bytes j k) ≡ take 8 (drop (8 * j) k.entries)
-sector_back j k h inside =
-    let eight : length (take 8 (drop (8 * j) k.entries)) ≡ 8 = simp (length-take, length-drop) (omega arith) in
-    ap (λ (n : ℕ). entries_in n (sector_bytes j k)) (sym eight)
-    ∙ entries_back (take 8 (drop (8 * j) k.entries)) (λ i l. subst FitsBytes (sym (get_or-take 8 (drop (8 * j) k.entries) i free_entry (omega (arith, eight)) ∙ get_or-drop (8 * j) k.entries i free_entry)) (h (8 * j + i)))
-
 pub load_broken : (lives : ℕ → Bool) (base i : ℕ) (es : List Entry) (e : Entry) (k : Kept) (r : Option Kept) → i < length es → e ≡ get_or es i free_entry → load_entry lives (base + i) e k ≡ None → load_entries lives (base + i) (drop i es) k ≡ r → r ≡ None
 unfolding load_entries
 load_broken lives base i es e k r inside at q held =
     let first : load_entries lives (base + i) (drop i es) k ≡ then_load (load_entries lives (base + i + 1) (drop (i + 1) es)) (load_entry lives (base + i) (get_or es i free_entry) k) = ap (λ (xs : List Entry). load_entries lives (base + i) xs k) (drop_more es i free_entry inside) in
     sym held ∙ first ∙ ap (λ (o : Option Kept). then_load (load_entries lives (base + i + 1) (drop (i + 1) es)) o) (ap (λ (x : Entry). load_entry lives (base + i) x k) (sym at) ∙ q)
+
+-- free entries load nothing
+pub load_free : (lives : ℕ → Bool) (i n : ℕ) (k : Kept) → lives 0 ≡ false → load_entries lives i (replicate n free_entry) k ≡ Some k
+unfolding load_entries
+load_free lives i zero k h = refl
+load_free lives i (suc n) k h = ap (λ (b : Bool). then_load (load_entries lives (i + 1) (replicate n free_entry)) (cond b (restores i free_entry k) (Some k))) h ∙ load_free lives (i + 1) n k h

@@ -4,7 +4,8 @@ use Rattle.std.proofs.lemmas.Bool.{cases_eq}
 use Rattle.pieces.specs.declared.entry.Entry.{Entry}
 use Rattle.pieces.specs.Entries.{free_entry}
 use Rattle.pieces.specs.Kept.{Kept, WasSet, entry_at, forgotten}
-use Rattle.pieces.specs.Meaning.{Sound, SetsOne, living, OnDevice, StaysOnDevice}
+use Rattle.pieces.specs.Meaning.{Sound, SetsOne}
+use Rattle.pieces.specs.Loading.{living, OnDevice, StaysOnDevice}
 use Rattle.pieces.proofs.Forgetting.{entry_forgotten, entry_stays}
 use Rattle.pieces.proofs.Steps.{long_forgotten}
 
@@ -43,4 +44,4 @@ fewer_stay lives fewer k es h o =
     (o.0, λ j. sym (twice lives fewer (get_or es j free_entry) (h (get_or es j free_entry).volume.0)) ∙ ap (living fewer) (o.1 j) ∙ twice lives fewer (entry_at j k) (h (entry_at j k).volume.0))
 
 pub stays_on_device : StaysOnDevice
-stays_on_device = record { set_written = set_stays; forgotten_unwritten = forget_stays; fewer_live = fewer_stay }
+stays_on_device = record { set_written = set_stays; forgotten_unwritten = forget_stays; fewer_live = fewer_stay; begun_again = λ size lives. (refl, λ j. refl) }

@@ -31,6 +31,10 @@ free_entry = marker 0 0 0
 abbrev pub is_block : (volume block : ℕ) → Entry → Bool
 is_block v b e = e.volume.0 == v && e.block.0 == b
 
+-- a volume has at most 2^40 sectors, so its blocks have numbers below 2^37
+abbrev pub is_block_number : ℕ → Bool
+is_block_number b = nat_lt b 137438953472
+
 abbrev pub is_empty : Entry → Bool
 is_empty e = list_all (λ p. p == 0) e.places
 

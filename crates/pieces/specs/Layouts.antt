@@ -10,19 +10,19 @@ is_size size = nat_le 65536 size && nat_le size 1099511627776
 abbrev pub places_of : ℕ → ℕ
 places_of size = 2 * ((size - 2048) / 4)
 
--- eight entries to a sector, as many entries as places, rounded up
+-- seven entries to a sector, as many entries as places, rounded up
 abbrev pub directory_sectors_of : ℕ → ℕ
-directory_sectors_of size = (places_of size + 7) / 8
+directory_sectors_of size = (places_of size + 6) / 7
 
 abbrev pub entries_of : ℕ → ℕ
-entries_of size = 8 * directory_sectors_of size
+entries_of size = 7 * directory_sectors_of size
 
 -- behind the fixed sectors the directory, and behind it data
 abbrev pub fixed : ℕ
 fixed = 16384
 
 abbrev pub directory_place : ℕ → ℕ
-directory_place entry = fixed + entry / 8
+directory_place entry = fixed + entry / 7
 
 abbrev pub data_place : (size place : ℕ) → ℕ
 data_place size place = fixed + directory_sectors_of size + (place - 1)

@@ -3,6 +3,7 @@ pub mod Entries
 pub mod Kept
 pub mod Loads
 pub mod Meaning
+pub mod Loading
 pub mod Changes
 pub mod Ranges
 pub mod Tables

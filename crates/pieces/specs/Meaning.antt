@@ -1,13 +1,12 @@
 -- What the directory means, and when it is sound.
 -- Assumes nothing.
-use Rattle.std.specs.Prelude.{◌≡◌, ◌≢◌, ◌⊎◌, ℕ, zero, suc, ◌+◌, ◌*◌, ◌/◌, ◌<◌, ◌≤◌, max, Bool, true, false, cond, List, ◌++◌, take, drop, length, ◌==◌, nat_lt, Some, None, Option, slice_index_or}
+use Rattle.std.specs.Prelude.{◌≡◌, ◌≢◌, ℕ, zero, suc, ◌/◌, ◌<◌, ◌≤◌, max, Bool, true, false, cond, List, length, ◌==◌, nat_lt, Some, None, Option, slice_index_or}
 use Rattle.std.specs.List.{sum_by, count_by, list_all}
 use Rattle.disks.specs.Device.{zeros}
 use Rattle.pieces.specs.declared.entry.Entry.{Entry}
-use Rattle.pieces.specs.Entries.{is_block, free_entry, FitsBytes}
+use Rattle.pieces.specs.Entries.{is_block, free_entry}
 use Rattle.pieces.specs.Layouts.{places_of, entries_of}
-use Rattle.pieces.specs.Kept.{Kept, blank_kept, index_of, entry_at, place_of, stamp_of, WasSet, sets, forgotten, raised}
-use Rattle.pieces.specs.Loads.{load_entries, then_load, entries_in, sector_bytes}
+use Rattle.pieces.specs.Kept.{Kept, blank_kept, index_of, entry_at, place_of, stamp_of, WasSet, sets, forgotten}
 
 -- is this place used?
 abbrev pub use_of : (place : ℕ) → ℕ → ℕ
@@ -109,40 +108,6 @@ ForgetMeans = (size v : ℕ) (k : Kept) → Sound size k → Forgets size v k (f
 pub record BlankMeans : Type 0 where
   pub sound : (size : ℕ) → 65536 ≤ size → Sound size (blank_kept size)
   pub blank : (size v n : ℕ) (d : ℕ → List ℕ) → shown d (blank_kept size) (suc v) n ≡ zeros 512
-
--- LOADING. An entry as it is loaded when these volumes live.
-abbrev pub living : (ℕ → Bool) → Entry → Entry
-living lives e = cond (lives e.volume.0) e free_entry
-
--- What is on the device is what is kept, but for entries of volumes that don't live: of these some may be on the device that are free here.
-abbrev pub OnDevice : (ℕ → Bool) → List Entry → Kept → Type 0
-OnDevice lives es k = (length es ≡ length k.entries) × ((j : ℕ) → living lives (slice_index_or es j free_entry) ≡ living lives (entry_at j k))
-
--- of volumes that live all is as it was, others are zeros
-pub record Loaded (size : ℕ) (lives : ℕ → Bool) (floor : ℕ) (k m : Kept) : Type 0 where
-  pub sound : Sound size m
-  pub shown_same : (d : ℕ → List ℕ) (v n : ℕ) → lives (suc v) ≡ true → shown d m (suc v) n ≡ shown d k (suc v) n
-  pub stamp_same : (v b : ℕ) → lives (suc v) ≡ true → stamp_of (suc v) b m ≡ stamp_of (suc v) b k
-  pub gone : (d : ℕ → List ℕ) (v n : ℕ) → lives (suc v) ≡ false → shown d m (suc v) n ≡ zeros 512
-  pub floor_as : m.floor ≡ floor
-
--- What was sound is loaded, and means the same; nothing lives under the number 0.
-abbrev pub LoadMeans : Type 0
-LoadMeans =
-    (size floor : ℕ) (lives : ℕ → Bool) (k : Kept) (es : List Entry) → Sound size k → lives 0 ≡ false → OnDevice lives es k →
-    (m : Kept) × (load_entries lives 0 es (raised floor (blank_kept size)) ≡ Some m) × Loaded size lives floor k m
-
--- sector by sector, and each as it was written
-pub record LoadsSectors : Type 0 where
-  pub append : (lives : ℕ → Bool) (i : ℕ) (xs ys : List Entry) (k : Kept) → load_entries lives i (xs ++ ys) k ≡ then_load (load_entries lives (i + length xs) ys) (load_entries lives i xs k)
-  pub sector : (j : ℕ) (k : Kept) → ((i : ℕ) → FitsBytes (entry_at i k)) → 8 * j + 8 ≤ length k.entries → entries_in 8 (sector_bytes j k) ≡ take 8 (drop (8 * j) k.entries)
-
--- What is on the device stays what is kept: when a sector was set and its entry's sector written, when a volume is gone, and when fewer live.
-pub record StaysOnDevice : Type 0 where
-  pub set_written : (size v n w : ℕ) (blank : Bool) (lives : ℕ → Bool) (k : Kept) (r : WasSet) (es fs : List Entry) → SetsOne size v n blank w k r → Sound size k → OnDevice lives es k → length fs ≡ length es →
-      ((j : ℕ) → (slice_index_or fs j free_entry ≡ entry_at j r.kept) ⊎ ((slice_index_or fs j free_entry ≡ slice_index_or es j free_entry) × (r.writes.entry ≡ Some j → ⊥))) → OnDevice lives fs r.kept
-  pub forgotten_unwritten : (size v : ℕ) (lives : ℕ → Bool) (k : Kept) (es : List Entry) → Sound size k → lives (suc v) ≡ false → OnDevice lives es k → OnDevice lives es (forgotten (suc v) (length k.entries) k)
-  pub fewer_live : (lives fewer : ℕ → Bool) (k : Kept) (es : List Entry) → ((v : ℕ) → fewer v ≡ true → lives v ≡ true) → OnDevice lives es k → OnDevice fewer es k
 
 -- Where things lie: no two sectors have one place, and each place is on the device and fits its five bytes.
 pub record PlacesApart : Type 0 where

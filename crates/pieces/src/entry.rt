@@ -18,6 +18,9 @@ const PLACES_START: usize = 24;
 // How many bytes a place has.
 const PLACE_BYTES: usize = 5;
 
+// How many blocks a volume can have: its sectors are at most 2^40.
+pub const VOLUME_BLOCKS: u64 = 1 << 37;
+
 // A block of a volume: its sector's number divided by eight.
 #[derive(Clone, Copy, PartialEq, Eq)]
 pub struct Block(pub u64);

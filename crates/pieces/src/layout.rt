@@ -13,12 +13,12 @@ pub const MOST_SIZE: u64 = 1 << 40;
 // such as those of pictures.
 pub const FIXED_SECTORS: u64 = 16_384;
 
-// How many entries of the directory fill a sector.
-pub const SECTOR_ENTRIES: u64 = 8;
+// How many entries a sector of the directory has, behind its generation.
+pub const SECTOR_ENTRIES: u64 = 7;
 
 // Of a device, what isn't room for volumes, and into how many shares the rest is divided: a share is what may be held, and data has two,
 // since a copy that catches up has sectors of the old state and of the new side by side.
-// On the least device: fixed 16,384, data 2 x 15,872 = 31,744, directory 31,744 / 8 = 3,968, together 52,096 of 65,536.
+// On the least device: fixed 16,384, data 2 x 15,872 = 31,744, directory 31,744 / 7 = 4,535, together 52,663 of 65,536.
 const KEPT_BACK: u64 = 2048;
 
 const SHARES: u64 = 4;

@@ -4,7 +4,9 @@
 pub mod changed;
 pub mod entry;
 pub mod forget;
+pub mod generation;
 pub mod layout;
+pub mod living;
 pub mod load;
 pub mod piece;
 pub mod pieces;

@@ -1,21 +1,28 @@
-// The directory as it is on the device: sectors of eight entries each.
+// The directory as it is on the device: sectors of seven entries each, behind their generation.
 ghost use Rattle.std.specs.Prelude.{◌≡◌, ◌+◌, ◌*◌, ◌≤◌, ◌<◌, length, Some, None, IfOk, OnOk, take, drop, MatchOption, OnErr, IfErr};
 ghost use Rattle.pieces.specs.declared.load.Unloaded.TheVariants.{NoMemory, Broken};
-ghost use Rattle.pieces.specs.Meaning.{LoadMeans, LoadsSectors, StaysOnDevice};
+ghost use Rattle.pieces.specs.Loading.{LoadMeans, LoadSame, LoadsSectors, StaysInRange, StaysOnDevice};
+ghost use Rattle.volumes.specs.Service.{is_living};
 ghost use Rattle.pieces.specs.Kept.{the_kept, index_of, raised};
 ghost use Rattle.pieces.specs.Layouts.{directory_sectors_of};
-ghost use Rattle.pieces.specs.Loads.{sector_bytes, take_new, take_all, restores, load_entry, load_entries, entries_in, is_living};
+ghost use Rattle.pieces.specs.Loads.{sector_bytes, sector_entries, take_new, take_all, restores, load_entry, load_entries, entries_in};
 
-use crate::entry::{ENTRY_BYTES, Entry, Stamp};
+use crate::entry::{ENTRY_BYTES, Entry, Stamp, VOLUME_BLOCKS};
+use crate::generation::Generation;
+use crate::layout::SECTOR_ENTRIES;
+use crate::living::Living;
 use crate::state::Pieces;
 use octets::{BLANK_SECTOR, SECTOR_BYTES};
 use std::alloc::{AllocError, Global};
 use wire::number::*;
 
+// Where a sector's entries begin, behind the generation and 56 zeros.
+const ENTRIES_START: usize = 64;
+
 // Why a directory isn't loaded.
 #[derive(Clone, Copy, Debug, PartialEq, Eq)]
 pub enum Unloaded {
-    // it contradicts itself: a place or a block twice, or a place that the device hasn't
+    // it contradicts itself: a place or a block twice, or a place that the device hasn't, or a block that no volume has
     Broken,
     NoMemory,
 }
@@ -37,7 +44,7 @@ impl Pieces {
         ensures broken { IfErr result (λ e. e ≡ Broken → restores index entry (the_kept self.old) ≡ None) }
         ensures layout { self.new.layout ≡ self.old.layout }
     {
-        if self.index_of(entry.volume, entry.block).is_some() {
+        if entry.block.0 >= VOLUME_BLOCKS || self.index_of(entry.volume, entry.block).is_some() {
             return Err(Unloaded::Broken);
         }
         take_places(self.taken.as_mut_slice(), &entry.places)?;
@@ -51,43 +58,68 @@ impl Pieces {
         heap: Global,
         index: usize,
         entry: Entry,
-        lives: &[Volume],
+        living: Living<'_>,
     ) -> Result<(), Unloaded>
         requires { index < length self.old.entries.items }
-        ensures kept { IfOk result (λ u. load_entry (is_living lives.now) index entry (the_kept self.old) ≡ Some (the_kept self.new)) }
-        ensures broken { IfErr result (λ e. e ≡ Broken → load_entry (is_living lives.now) index entry (the_kept self.old) ≡ None) }
+        ensures kept { IfOk result (λ u. load_entry (is_living living.entry.next living.entry.heads.now) index entry (the_kept self.old) ≡ Some (the_kept self.new)) }
+        ensures broken { IfErr result (λ e. e ≡ Broken → load_entry (is_living living.entry.next living.entry.heads.now) index entry (the_kept self.old) ≡ None) }
         ensures layout { self.new.layout ≡ self.old.layout }
     {
-        if lives.contains(&entry.volume) {
+        if living.has(entry.volume) {
             self.restore(heap, index, entry)
         } else {
             Ok(())
         }
     }
 
+    // The entries of a sector of the present generation.
+    fn load_present(
+        &mut self,
+        heap: Global,
+        number: u64,
+        sector: &[u8; SECTOR_BYTES],
+        living: Living<'_>,
+    ) -> Result<(), Unloaded>
+        requires { number < directory_sectors_of self.old.layout.size }
+        ensures kept { IfOk result (λ u. load_entries (is_living living.entry.next living.entry.heads.now) (7 * number) (entries_in 7 (drop 64 sector.now)) (the_kept self.old) ≡ Some (the_kept self.new)) }
+        ensures broken { IfErr result (λ e. e ≡ Broken → load_entries (is_living living.entry.next living.entry.heads.now) (7 * number) (entries_in 7 (drop 64 sector.now)) (the_kept self.old) ≡ None) }
+        ensures layout { self.new.layout ≡ self.old.layout }
+    {
+        let first = (SECTOR_ENTRIES * number) as usize;
+        for i in 0..SECTOR_ENTRIES as usize {
+            let start = ENTRIES_START + ENTRY_BYTES * i;
+            let entry = Entry::read(&sector[start..start + ENTRY_BYTES]);
+            self.load_entry(heap, first + i, entry, living)?;
+        }
+        Ok(())
+    }
+
     #[tactic(auto, using(crate::proofs::Promised::load_promised))]
-    // A sector of the directory, as it is on the device, when these volumes live. The sectors are loaded into a new directory, one after the
-    // other; where one is broken nothing is said of what is left.
+    // A sector of the directory, as it is on the device, when this is the generation and these volumes live. The sectors are loaded into a new
+    // directory, one after the other; where one is broken nothing is said of what is left.
     pub fn load_sector(
         &mut self,
         heap: Global,
         number: u64,
         sector: &[u8; SECTOR_BYTES],
-        lives: &[Volume],
+        generation: Generation,
+        living: Living<'_>,
     ) -> Result<(), Unloaded>
         requires { number < directory_sectors_of self.old.layout.size }
-        ensures kept { IfOk result (λ u. load_entries (is_living lives.now) (8 * number) (entries_in 8 sector.now) (the_kept self.old) ≡ Some (the_kept self.new)) }
-        ensures broken { IfErr result (λ e. e ≡ Broken → load_entries (is_living lives.now) (8 * number) (entries_in 8 sector.now) (the_kept self.old) ≡ None) }
+        ensures kept { IfOk result (λ u. load_entries (is_living living.entry.next living.entry.heads.now) (7 * number) (sector_entries generation.0 sector.now) (the_kept self.old) ≡ Some (the_kept self.new)) }
+        ensures broken { IfErr result (λ e. e ≡ Broken → load_entries (is_living living.entry.next living.entry.heads.now) (7 * number) (sector_entries generation.0 sector.now) (the_kept self.old) ≡ None) }
         ensures means { LoadMeans }
+        ensures same { LoadSame }
         ensures sectors { LoadsSectors }
+        ensures range { StaysInRange }
         ensures stays { StaysOnDevice }
         ensures layout { self.new.layout ≡ self.old.layout }
     {
-        for i in 0..8 {
-            let entry = Entry::read(&sector[ENTRY_BYTES * i..ENTRY_BYTES * i + ENTRY_BYTES]);
-            self.load_entry(heap, 8 * number as usize + i, entry, lives)?;
+        if Generation::of(sector) == generation {
+            self.load_present(heap, number, sector, living)
+        } else {
+            Ok(())
         }
-        Ok(())
     }
 
     // No stamp that is given up is above the floor.
@@ -99,15 +131,16 @@ impl Pieces {
     }
 
     // How a sector of the directory is to be.
-    pub fn directory_sector(&self, number: u64) -> [u8; SECTOR_BYTES]
+    pub fn directory_sector(&self, number: u64, generation: Generation) -> [u8; SECTOR_BYTES]
         requires { number < directory_sectors_of self.now.layout.size }
-        ensures { result ≡ sector_bytes number (the_kept self.now) }
+        ensures { result ≡ sector_bytes generation.0 number (the_kept self.now) }
     {
+        let first = (SECTOR_ENTRIES * number) as usize;
         let mut sector = BLANK_SECTOR;
-        for i in 0..8 {
-            self.entries[8 * number as usize + i].fill(
-                &mut sector[ENTRY_BYTES * i..ENTRY_BYTES * i + ENTRY_BYTES],
-            );
+        sector[0..8].copy_from_slice(&generation.0.to_be_bytes());
+        for i in 0..SECTOR_ENTRIES as usize {
+            let start = ENTRIES_START + ENTRY_BYTES * i;
+            self.entries[first + i].fill(&mut sector[start..start + ENTRY_BYTES]);
         }
         sector
     }

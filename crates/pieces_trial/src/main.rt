@@ -1,12 +1,13 @@
 // Plays writes, droppings and reopenings by chance against a plain map, and fills a device to twice its room, densely and as sparsely as can be.
 #![tactic(auto)]
 
+mod plays;
 mod trial;
 
 use anyhow::Context;
 use arguments::two;
+use plays::{dense, random, sparse};
 use std::env;
-use trial::{dense, random, sparse};
 
 const USAGE: &str = "usage: pieces_trial SEED STEPS";
 
