@@ -1,6 +1,6 @@
 -- How many sectors are held: in all, in two directories of which one holds no more than the other, and block by block.
 -- Assumes nothing.
-use Rattle.std.specs.Prelude.{◌≡◌, ◌≢◌, ℕ, suc, ◌+◌, ◌*◌, ◌<◌, ◌≤◌, Bool, false, cond, List, [], ◌∷◌, length, ◌==◌, Some, slice_index_or}
+use Rattle.std.specs.Prelude.{◌≡◌, ◌≢◌, ◌⊎◌, ℕ, suc, ◌+◌, ◌*◌, ◌/◌, ◌<◌, ◌≤◌, Bool, false, cond, List, [], ◌∷◌, length, ◌==◌, Some, slice_index_or}
 use Rattle.std.specs.List.{sum_by}
 use Rattle.disks.specs.Disks.{all_zero, used}
 use Rattle.pieces.specs.declared.entry.Entry.{Entry}
@@ -76,9 +76,19 @@ pub record HeldUsed : Type 0 where
   pub block : (size v b : ℕ) (d : ℕ → List ℕ) (k : Kept) → Sound size k → NoBlanks d k → held_of k (key_of (suc v) b) ≡ used_of d k (key_of (suc v) b)
   pub bounded : (size bound : ℕ) (d : ℕ → List ℕ) (k : Kept) → Sound size k → Clean k → NoBlanks d k → ((bs : List Key) → Distinct bs → AllInUse k bs → sum_by (used_of d k) bs ≤ bound) → held k.entries ≤ bound
 
--- Setting a sector and giving up an entry leave no blanks, and entries of no volume free.
-pub record StaysClean : Type 0 where
-  pub set_blanks : (size v n w : ℕ) (bs : List ℕ) (d : ℕ → List ℕ) (k : Kept) (r : WasSet) → Sound size k → NoBlanks d k → sets (suc v) n (all_zero bs) w k ≡ Some r → NoBlanks (stored_at r.writes.place bs d) r.kept
-  pub set_clean : (size v n w : ℕ) (blank : Bool) (k : Kept) (r : WasSet) → Sound size k → Clean k → sets (suc v) n blank w k ≡ Some r → Clean r.kept
-  pub vacated_blanks : (size i : ℕ) (d : ℕ → List ℕ) (k : Kept) → Sound size k → i < length k.entries → NoBlanks d k → NoBlanks d (vacated i k)
-  pub vacated_clean : (size i : ℕ) (k : Kept) → Sound size k → i < length k.entries → Clean k → Clean (vacated i k)
+-- Setting a sector leaves no blanks, and entries of no volume free: the entry that changes is the sector's block's.
+pub record SetStaysClean : Type 0 where
+  pub blanks : (size v n w : ℕ) (bs : List ℕ) (d : ℕ → List ℕ) (k : Kept) (r : WasSet) → Sound size k → NoBlanks d k → sets (suc v) n (all_zero bs) w k ≡ Some r → NoBlanks (stored_at r.writes.place bs d) r.kept
+  pub clean : (size v n w : ℕ) (blank : Bool) (k : Kept) (r : WasSet) → Sound size k → Clean k → sets (suc v) n blank w k ≡ Some r → Clean r.kept
+  pub entry : (size v n w j : ℕ) (blank : Bool) (k : Kept) (r : WasSet) → Sound size k → sets (suc v) n blank w k ≡ Some r → r.writes.entry ≡ Some j → entry_key (entry_at j r.kept) ≡ key_of (suc v) (n / 8)
+
+-- entries were given up, and no others changed
+abbrev pub Thinned : Kept → Kept → Type 0
+Thinned k m = (j : ℕ) → (entry_at j m ≡ free_entry) ⊎ (entry_at j m ≡ entry_at j k)
+
+-- So does giving up entries, and what is held was held.
+pub record ThinnedStaysClean : Type 0 where
+  pub blanks : (size : ℕ) (d : ℕ → List ℕ) (k m : Kept) → Sound size k → Thinned k m → NoBlanks d k → NoBlanks d m
+  pub clean : (k m : Kept) → Thinned k m → Clean k → Clean m
+  pub within : (size : ℕ) (k m : Kept) → Sound size k → Thinned k m → Within k m
+  pub vacated : (size i : ℕ) (k : Kept) → Sound size k → i < length k.entries → Thinned k (vacated i k)
