@@ -1,10 +1,19 @@
 // What is promised of how many sectors are held.
-ghost use Rattle.pieces.specs.Counts.{HeldWithin, HeldByBlocks, HeldUsed};
+ghost use Rattle.pieces.specs.Counts.{HeldWithin, HeldFits, FitsWithin, HeldByBlocks, HeldUsed, SetStaysClean, ThinnedStaysClean};
 
-// A directory that holds no sector that another one doesn't holds no more; and what is held is held by distinct blocks.
-#[tactic(auto, using(crate::proofs::Within::held_within, crate::proofs::Blocks::held_by_blocks, crate::proofs::Used::held_used))]
-pub fn counts_promised()
+// A directory that holds no sector that another one doesn't holds no more, so it has room for each that the other holds.
+#[tactic(auto, using(crate::proofs::Within::held_within, crate::proofs::Fitting::held_fits, crate::proofs::Fitting::fits_within))]
+pub fn held_within()
     ensures within { HeldWithin }
+    ensures fits { HeldFits }
+    ensures room { FitsWithin }
+{}
+
+// What is held is held by distinct blocks, and is what isn't zeros where no sector that is held is zeros; which stays so.
+#[tactic(auto, using(crate::proofs::Blocks::held_by_blocks, crate::proofs::Used::held_used, crate::proofs::SetClean::set_stays_clean, crate::proofs::Thinning::thinned_stays_clean))]
+pub fn held_by_blocks()
     ensures blocks { HeldByBlocks }
     ensures used { HeldUsed }
+    ensures set { SetStaysClean }
+    ensures thinned { ThinnedStaysClean }
 {}
