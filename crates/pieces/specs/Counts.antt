@@ -1,8 +1,8 @@
 -- How many sectors are held: in all, in two directories of which one holds no more than the other, and block by block.
 -- Assumes nothing.
-use Rattle.std.specs.Prelude.{◌≡◌, ◌≢◌, ◌⊎◌, ℕ, suc, ◌+◌, ◌*◌, ◌/◌, ◌<◌, ◌≤◌, Bool, false, cond, List, [], ◌∷◌, length, ◌==◌, Some, slice_index_or}
-use Rattle.std.specs.List.{sum_by}
-use Rattle.disks.specs.Disks.{all_zero, used}
+use Rattle.std.specs.Prelude.{◌≡◌, ◌≢◌, ◌⊎◌, ℕ, suc, ◌+◌, ◌*◌, ◌/◌, ◌<◌, ◌≤◌, Bool, false, cond, not, eqb, List, [], ◌∷◌, length, ◌==◌, Some, slice_index_or}
+use Rattle.std.specs.List.{sum_by, All, IsDistinct}
+use Rattle.disks.specs.Disks.{all_zero, used, one}
 use Rattle.pieces.specs.declared.entry.Entry.{Entry}
 use Rattle.pieces.specs.declared.changed.Key.{Key}
 use Rattle.pieces.specs.Entries.{free_entry}
@@ -92,3 +92,32 @@ pub record ThinnedStaysClean : Type 0 where
   pub clean : (k m : Kept) → Thinned k m → Clean k → Clean m
   pub within : (size : ℕ) (k m : Kept) → Sound size k → Thinned k m → Within k m
   pub vacated : (size i : ℕ) (k : Kept) → Sound size k → i < length k.entries → Thinned k (vacated i k)
+
+-- BY NUMBERS. A volume has at most 2^40 sectors, so at most 2^37 blocks, and all blocks can be numbered.
+abbrev pub number_of : Key → ℕ
+number_of b = b.volume.0 * 137438953472 + b.block.0
+
+abbrev pub InUse : Kept → (number : ℕ) → Type 0
+InUse k q = (j : ℕ) × (j < length k.entries) × ((entry_at j k).volume.0 ≢ 0) × (q ≡ number_of (entry_key (entry_at j k)))
+
+-- how many of these sectors are not zeros
+abbrev pub filled : List (List ℕ) → ℕ
+filled ss = sum_by (λ (s : List ℕ). one (not (all_zero s))) ss
+
+abbrev pub block_shown : (ℕ → List ℕ) → Kept → (volume block : ℕ) → List (List ℕ)
+block_shown d k v b =
+    shown d k v (8 * b + 0)
+    ∷ shown d k v (8 * b + 1)
+    ∷ shown d k v (8 * b + 2)
+    ∷ shown d k v (8 * b + 3)
+    ∷ shown d k v (8 * b + 4)
+    ∷ shown d k v (8 * b + 5)
+    ∷ shown d k v (8 * b + 6)
+    ∷ shown d k v (8 * b + 7)
+    ∷ []
+
+-- What bounds numbers that are distinct bounds what is held, where to a block's number no less is given than how many of its sectors are not zeros.
+pub record HeldByNumbers : Type 0 where
+  pub filled_used : (v b : ℕ) (d : ℕ → List ℕ) (k : Kept) → used_of d k (key_of v b) ≡ filled (block_shown d k v b)
+  pub bounded : (size bound : ℕ) (d : ℕ → List ℕ) (k : Kept) (g : ℕ → ℕ) → Sound size k → Clean k → NoBlanks d k → ((j : ℕ) → j < length k.entries → (entry_at j k).block.0 < 137438953472) →
+      ((j : ℕ) → j < length k.entries → (entry_at j k).volume.0 ≢ 0 → used_of d k (entry_key (entry_at j k)) ≤ g (number_of (entry_key (entry_at j k)))) → ((qs : List ℕ) → IsDistinct eqb qs → All (InUse k) qs → sum_by g qs ≤ bound) → held k.entries ≤ bound
