@@ -5,5 +5,6 @@ pub mod Loads
 pub mod Meaning
 pub mod Changes
 pub mod Ranges
+pub mod Replaces
 pub mod Tables
 pub mod Agreements
