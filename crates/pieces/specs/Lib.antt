@@ -5,6 +5,7 @@ pub mod Loads
 pub mod Meaning
 pub mod Changes
 pub mod Ranges
+pub mod Replaces
 pub mod Tables
 pub mod Agreements
 pub mod Counts
