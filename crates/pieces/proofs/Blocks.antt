@@ -71,7 +71,7 @@ keys_apart (e ∷ es) single = go (e.volume.0 == 0) (keys_apart es (single_tail 
 abbrev holding : List Entry → Key → ℕ
 holding es b = held_in (look b.volume.0 b.block.0 es)
 
-all_held : (es : List Entry) → Single es → Idle es → held es ≡ sum_by (holding es) (keys_in es)
+all_held : (es : List Entry) → Single es → Idle held_in es → held es ≡ sum_by (holding es) (keys_in es)
 all_held [] single idle = refl
 all_held (e ∷ es) single idle = go (e.volume.0 == 0) refl (all_held es (single_tail e es single) (λ i. idle (suc i)))
   where

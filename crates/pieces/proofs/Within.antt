@@ -11,7 +11,7 @@ use Rattle.pieces.specs.Meaning.{full, look_in, look, held_in, held, Sound}
 use Rattle.pieces.specs.Counts.{Clean, IsHeld, Within, HeldWithin}
 use Rattle.pieces.proofs.Counting.{full_none, full_some, sum_fewer}
 use Rattle.pieces.proofs.Looking.{place_looked}
-use Rattle.pieces.proofs.Holding.{Idle, free_holds, holds_no_more, holds_less}
+use Rattle.pieces.proofs.Holding.{Idle, free_holds, weighs_no_more, holds_less}
 
 -- a block's entry has eight places
 pub eight_looked : (size v b : ℕ) (k : Kept) → Sound size k → length (look v b k.entries).places ≡ 8
@@ -28,7 +28,7 @@ slot_looked v b s k l =
     let es : (8 * b + s) % 8 ≡ s = omega arith in
     place_looked v (8 * b + s) k ∙ ap (λ (n : ℕ). get_or (look v n k.entries).places ((8 * b + s) % 8) 0) eb ∙ ap (λ (n : ℕ). get_or (look v b k.entries).places n 0) es
 
-pub idle : (k : Kept) → Clean k → Idle k.entries
+pub idle : (k : Kept) → Clean k → Idle held_in k.entries
 idle k c i e = ap held_in (c i e) ∙ free_holds
 
 sum_one_less : {X : Type 0} (g : X → ℕ) (xs ys : List X) (d : X) (i : ℕ) → length xs ≡ length ys → i < length ys → ((j : ℕ) → g (get_or xs j d) ≤ g (get_or ys j d)) → g (get_or xs i d) < g (get_or ys i d) → sum_by g xs < sum_by g ys
@@ -62,7 +62,7 @@ module _ (size v b : ℕ) (s t : Kept) (x : Sound size s) (y : Sound size t) (w 
 
 pub held_within : HeldWithin
 held_within = record {
-  at_most = λ size s t x y c w. holds_no_more t.entries s.entries y.single (idle t c) (λ v b. block_within size v b s t x y w);
+  at_most = λ size s t x y c w. weighs_no_more held_in free_holds t.entries s.entries y.single (idle t c) (λ v b. block_within size v b s t x y w);
   fewer = fewer;
 }
   where
