@@ -25,7 +25,7 @@ held_at v n k h = go (index_of v (n / 8) k.entries) refl h
     go (Some i) e o = (i, e, refl)
 
 -- a block's entry is one of the list
-block_inside : (v b i : ℕ) (es : List Entry) → is_block (suc v) b (get_or es i free_entry) ≡ true → i < length es
+pub block_inside : (v b i : ℕ) (es : List Entry) → is_block (suc v) b (get_or es i free_entry) ≡ true → i < length es
 block_inside v b i es t = go (cases_lt i (length es))
   where
     go : (i < length es) ⊎ (length es ≤ i) → i < length es
