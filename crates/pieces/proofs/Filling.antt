@@ -1,5 +1,5 @@
 -- Blocks of another directory are taken over one sector after the other: each finds room, and the other holds no less afterwards.
-use Rattle.std.proofs.Common.{◌≡◌, ◌≢◌, ◌⊎◌, inl, inr, ℕ, zero, suc, ◌+◌, ◌*◌, ◌/◌, ◌<◌, ◌≤◌, Bool, true, false, cond, nat_lt, List, [], ◌∷◌, length, get_or, Some, None, Option, refl, sym, ap, ◌∙◌, subst, arith}
+use Rattle.std.proofs.Common.{◌≡◌, ◌≢◌, ◌⊎◌, inl, inr, ℕ, zero, suc, ◌+◌, ◌*◌, ◌/◌, ◌<◌, ◌≤◌, Bool, true, false, cond, nat_lt, List, [], ◌∷◌, length, get_or, Some, None, Option, refl, ap, ◌∙◌, subst, arith}
 use Rattle.std.specs.List.{count_by, All}
 use Rattle.std.specs.Option.{option_map}
 use Rattle.std.proofs.lemmas.Bool.{le-ltb}
@@ -9,14 +9,13 @@ use Rattle.disks.specs.Disks.{all_zero}
 use Rattle.pieces.specs.declared.changed.Key.{Key}
 use Rattle.pieces.specs.declared.entry.Entry.{Entry}
 use Rattle.pieces.specs.Entries.{free_entry}
-use Rattle.pieces.specs.Kept.{Kept, WasSet, entry_at, place_of, raised, sets}
-use Rattle.pieces.specs.Meaning.{Sound, content}
+use Rattle.pieces.specs.Kept.{Kept, WasSet, entry_at, raised, sets}
+use Rattle.pieces.specs.Meaning.{Sound}
 use Rattle.pieces.specs.Ranges.{is_within}
 use Rattle.pieces.specs.Replaces.{Held, Filled, set_of, was_stored, sets_held, then_held, fills_slots, fills, fills_all, vacates_where, Vacates, emptied, floor_raised, replaces}
-use Rattle.pieces.specs.Counts.{IsHeld, Within, NoBlanks, Thinned}
+use Rattle.pieces.specs.Counts.{IsHeld, Thinned}
 use Rattle.pieces.specs.Fits.{HasEntry, FitsIn, IsFrom, FitsStay}
 use Rattle.pieces.proofs.Always.{zeros_need_none}
-use Rattle.pieces.proofs.Looking.{place_looked}
 use Rattle.pieces.proofs.SetMeaning.{set_means}
 use Rattle.pieces.proofs.Vacating.{vacate_means}
 use Rattle.pieces.proofs.Fitting.{fits_within}
@@ -36,13 +35,17 @@ unfolding sets_held
 one_sector size v n w bs s h x f mine held = go (all_zero bs) refl
   where
     comes : (r : WasSet) → sets (suc v) n (all_zero bs) w h.kept ≡ Some r → Comes size s (set_of bs h.data' (sets (suc v) n (all_zero bs) w h.kept))
-    comes r e = (was_stored bs h.data' r, ap (set_of bs h.data') e, record {
-      sound = (set_means size v n w (all_zero bs) h.kept r f.sound e).sound;
-      clean = set_stays_clean.clean size v n w (all_zero bs) h.kept r f.sound f.clean e;
-      no_blanks = set_stays_clean.blanks size v n w bs h.data' h.kept r f.sound f.no_blanks e;
-      held = fits_within.stays size v n w (all_zero bs) s h.kept r f.sound f.held held e;
-      entries = entries_set size v n w (all_zero bs) s h.kept r f.sound e mine f.entries;
-    })
+    comes r e = (
+      was_stored bs h.data' r,
+      ap (set_of bs h.data') e,
+      record {
+        sound = (set_means size v n w (all_zero bs) h.kept r f.sound e).sound;
+        clean = set_stays_clean.clean size v n w (all_zero bs) h.kept r f.sound f.clean e;
+        no_blanks = set_stays_clean.blanks size v n w bs h.data' h.kept r f.sound f.no_blanks e;
+        held = fits_within.stays size v n w (all_zero bs) s h.kept r f.sound f.held held e;
+        entries = entries_set size v n w (all_zero bs) s h.kept r f.sound e mine f.entries;
+      },
+    )
 
     go : (b : Bool) → all_zero bs ≡ b → Comes size s (set_of bs h.data' (sets (suc v) n (all_zero bs) w h.kept))
     go true e = let r = zeros_need_none (suc v) n w h.kept in comes r.0 (ap (λ (b : Bool). sets (suc v) n b w h.kept) e ∙ r.1)
@@ -67,7 +70,7 @@ unfolding fills_all
 all_blocks size [] s h x f from = (h, refl, f)
 all_blocks size (b ∷ bs) s h x f from =
     let y = All-head (IsFrom s) b bs from in
-    then_comes size s (fills b h) (fills_all bs) (one_block size b.volume b.block b.stamp b.sectors s h x f y.volume y.entry y.eight y.held) (λ m fits. all_blocks size bs s m x fits (All-tail (IsFrom s) b bs from))
+    then_comes size s (fills b h) (fills_all bs) (one_block size b.volume b.block b.stamp b.sectors s h x f y.volume y.entry (omega (arith, y.eight)) y.held) (λ m fits. all_blocks size bs s m x fits (All-tail (IsFrom s) b bs from))
 
 thinned : (size : ℕ) (s m : Kept) (h : Held) → FitsIn size s h → Sound size m → Thinned h.kept m → FitsIn size s (record { kept = m; data' = h.data' })
 thinned size s m h f y thin = record {

@@ -1,5 +1,5 @@
 -- Blocks that have entries: which have one after entries were given up, or after a sector was set; and how many do of a range.
-use Rattle.std.proofs.Common.{◌≡◌, ◌≢◌, ◌⊎◌, inl, inr, ℕ, zero, suc, ◌/◌, ◌<◌, ◌≤◌, Bool, true, false, cond, not, ◌&&◌, ◌==◌, List, length, get_or, Some, None, Option, refl, sym, ap, ◌∙◌, subst, arith}
+use Rattle.std.proofs.Common.{◌≡◌, ◌⊎◌, inl, inr, ℕ, suc, ◌/◌, ◌≤◌, Bool, true, false, cond, not, ◌&&◌, ◌==◌, Some, None, Option, refl, sym, ap, ◌∙◌, subst, arith}
 use Rattle.std.specs.List.{count_by}
 use Rattle.std.proofs.lemmas.Bool.{cases_eq, eq-eqb, and_left}
 use Rattle.pieces.specs.declared.entry.Entry.{Entry}
@@ -12,13 +12,13 @@ use Rattle.pieces.specs.Ranges.{is_within}
 use Rattle.pieces.specs.Counts.{Thinned}
 use Rattle.pieces.specs.Fits.{HasEntry, EntriesWithin, FewerInRange}
 use Rattle.pieces.proofs.Counting.{none_of}
-use Rattle.pieces.proofs.Looking.{no_block, look_in_none}
+use Rattle.pieces.proofs.Looking.{no_block}
 use Rattle.pieces.proofs.Putting.{its_own}
 use Rattle.pieces.proofs.ListMeaning.{same_key}
 use Rattle.pieces.proofs.SetMeaning.{set_means}
 use Rattle.pieces.proofs.Thinning.{block_inside}
 use Rattle.pieces.proofs.SetClean.{set_stays_clean}
-use Rattle.pieces.proofs.Holding.{Single, Idle, Lighter, weighs_no_more}
+use Rattle.pieces.proofs.Holding.{weighs_no_more}
 
 clash : {A : Type 0} → false ≡ true → A
 clash e = let z : ◌≡◌ {A = ℕ} 0 1 = cc in absurd (omega arith)

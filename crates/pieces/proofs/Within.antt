@@ -4,9 +4,7 @@ use Rattle.std.specs.List.{sum_by}
 use Rattle.std.proofs.lemmas.List.{get_or_past}
 use Rattle.std.proofs.lemmas.List.Sums.{sum_by-cons}
 use Rattle.std.proofs.lemmas.Bool.{cases_eq, cases_lt}
-use Rattle.pieces.specs.declared.entry.Entry.{Entry}
-use Rattle.pieces.specs.Entries.{free_entry}
-use Rattle.pieces.specs.Kept.{Kept, index_of, entry_at, place_of}
+use Rattle.pieces.specs.Kept.{Kept, index_of, place_of}
 use Rattle.pieces.specs.Meaning.{full, look_in, look, held_in, held, Sound}
 use Rattle.pieces.specs.Counts.{Clean, IsHeld, Within, HeldWithin}
 use Rattle.pieces.proofs.Counting.{full_none, full_some, sum_fewer}
