@@ -10,10 +10,9 @@ use Rattle.pieces.specs.Loads.{then_load, load_entries}
 use Rattle.pieces.specs.Meaning.{look, look_in, Sound, content}
 use Rattle.pieces.specs.Loading.{living, OnDevice, BlocksInRange, Loaded, LoadMeans}
 use Rattle.pieces.proofs.Bytes.{both_true}
-use Rattle.pieces.proofs.Counting.{none_from_zero, none_counted}
-use Rattle.pieces.proofs.Looking.{zeros_at, place_looked, stamp_looked, look_in_none}
+use Rattle.pieces.proofs.Counting.{none_from_zero, none_counted, position_alike}
+use Rattle.pieces.proofs.Looking.{zeros_at, place_looked, stamp_looked, look_in_none, no_block}
 use Rattle.pieces.proofs.Putting.{its_own}
-use Rattle.pieces.proofs.Forgetting.{position_alike, no_block}
 use Rattle.pieces.proofs.Blank.{blank_sound, defaults}
 use Rattle.pieces.proofs.Restoring.{Partly, living_cases, load_one}
 

@@ -12,7 +12,8 @@ use Rattle.pieces.specs.Meaning.{use_of, uses_in, uses, full, held_in, one, is_t
 use Rattle.pieces.specs.Loading.{living}
 use Rattle.pieces.proofs.Counting.{use_same, use_other, full_none, full_some, one-le, no_use, no_held, none_from_zero}
 use Rattle.pieces.proofs.Soundness.{used_taken, taken_in}
-use Rattle.pieces.proofs.Forgetting.{sum_fewer, no_block}
+use Rattle.pieces.proofs.Counting.{sum_fewer}
+use Rattle.pieces.proofs.Looking.{no_block}
 
 clash : {A : Type 0} → false ≡ true → A
 clash e = let z : ◌≡◌ {A = ℕ} 0 1 = cc in absurd (omega arith)

@@ -6,5 +6,8 @@ pub mod Meaning
 pub mod Loading
 pub mod Changes
 pub mod Ranges
+pub mod Replaces
 pub mod Tables
 pub mod Agreements
+pub mod Counts
+pub mod Fits
