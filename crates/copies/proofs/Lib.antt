@@ -1,3 +1,4 @@
+pub mod Alike
 pub mod Lists
 pub mod Cases
 pub mod ByHouse

@@ -1,5 +1,5 @@
 // What is sent when all is stored: messages, each to a house.
-ghost use Rattle.std.specs.Prelude.{◌≡◌, ◌++◌, ◌∷◌, [], map, IfOk, OnOk, vec_items};
+ghost use Rattle.std.specs.Prelude.{◌≡◌, ℕ, ◌++◌, ◌∷◌, [], map, IfOk, OnOk, vec_items};
 ghost use Rattle.copies.specs.Messages.{Told, Bundled};
 ghost use Rattle.copies.specs.Posts.{post_of, others_of, want_in, status_of, whom_of, to_all, bundle_of, reply_to, want_to, posts_of, the_post, the_posts};
 ghost use Rattle.copies.specs.Views.{the_house, the_message, the_proposal, the_agreeing, the_status, the_session, the_sessions, the_recovery, the_wants, the_whom, the_way, the_turn, the_bundle, the_command, the_bundles};
@@ -101,6 +101,19 @@ impl<A: Copied> Sessions<A> {
                 replies: Vec::new(heap),
             }),
         }
+    }
+}
+
+impl<A: Copied> Sessions<A> {
+    // All of them.
+    pub fn copied_all(&self, heap: Global) -> Result<Sessions<A>, AllocError>
+        ensures { IfOk result (λ s. (h : ℕ) → the_sessions s h ≡ the_sessions self.now h) }
+    {
+        let mut each = Vec::new(heap);
+        for session in &self.each {
+            each.push(session.copied(heap)?)?;
+        }
+        Ok(Sessions { each })
     }
 }
 

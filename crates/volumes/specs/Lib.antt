@@ -1,3 +1,4 @@
 pub mod Weights
 pub mod Service
+pub mod Restored
 pub mod Simulation

@@ -4,6 +4,7 @@
 pub mod head;
 pub mod living;
 pub mod outcome;
+pub mod restored;
 pub mod service;
 pub mod volumes;
 pub mod weigh;

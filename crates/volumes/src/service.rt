@@ -21,7 +21,7 @@ use wire::number::*;
 use wire::refusal::Refusal;
 
 // How many volumes there may be.
-const MOST_VOLUMES: usize = 4096;
+pub(crate) const MOST_VOLUMES: usize = 4096;
 
 // The largest size of a volume.
 const MOST_SIZE: Size = Size(1 << 40);
@@ -36,7 +36,7 @@ const TABLE_SECTORS: u64 = 2048;
 const ROOM_SHARE: u64 = 4;
 
 // What a volume weighs besides its sectors.
-const VOLUME_WEIGHT: u64 = 64;
+pub(crate) const VOLUME_WEIGHT: u64 = 64;
 
 // The room for volumes where each house's device has so many sectors.
 pub fn room_of(sectors: u64) -> u64
