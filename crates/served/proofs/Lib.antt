@@ -1,3 +1,5 @@
 mod Seeing
 mod Steps
+mod Living
+mod Heads
 mod Lawful
