@@ -75,6 +75,15 @@ unfolding without
 count_without f p [] cs = cs
 count_without f p (h ∷ hs) cs = by_test (AllCount f) (p h) (λ _. cs.1) (λ _. (cs.0, count_without f p hs cs.1))
 
+pub count_found : (f : ℕ → Block) (p : Head → Bool) (hs : List Head) (h : Head) → find p hs ≡ h ∷ [] → AllCount f hs → Counts f h
+unfolding find
+count_found f p [] h e cs = absurd (nothing_found h e)
+count_found f p (k ∷ hs) h e cs = go (p k) refl (λ g. count_found f p hs h g cs.1)
+  where
+    go : (b : Bool) → p k ≡ b → (find p hs ≡ h ∷ [] → Counts f h) → Counts f h
+    go true t ih = subst (Counts f) (found_first (p k) k h (find p hs) t e) cs.0
+    go false t ih = ih (found_later (p k) k h (find p hs) t e)
+
 module _ (f g : ℕ → Block) where
   -- heads that are in a list
   pub count_each : (low high : ℕ) (all hs : List Head) → ((w : ℕ) → list_any (is_head w) hs ≡ true → list_any (is_head w) all ≡ true) → 1 ≤ low → Rising low high hs → ((h : Head) → list_any (is_head h.number.0) all ≡ true → 1 ≤ h.number.0 → Counts f h → Counts g h) → AllCount f hs → AllCount g hs
