@@ -5,3 +5,5 @@ mod Heads
 mod Writing
 mod Rooms
 mod Lawful
+mod Totals
+mod Bounds

@@ -13,7 +13,7 @@ use Rattle.volumes.specs.Service.{Service, Served, puts, is_head, is_living, wit
 use Rattle.volumes.proofs.Counts.{used-blank, used_same, recounted}
 use Rattle.volumes.proofs.Weighing.{weighs_push, weighs-changed, weighs-without, recount_fits}
 use Rattle.copies.specs.Service.{Change, overwritten}
-use Rattle.served.specs.Blocks.{Block, empty_block, volume_of, key_at, sector_in}
+use Rattle.served.specs.Blocks.{Block, empty_block, key_of, volume_of, key_at, sector_in}
 use Rattle.served.specs.Room.{is_gone, Counts, IsBlock, HasRoom}
 use Rattle.served.specs.Served.{changes_of}
 use Rattle.served.proofs.Seeing.{volume_of-key_of}
@@ -24,17 +24,20 @@ use Rattle.served.proofs.Writing.{over, sector-over, sector-held, block-over}
 
 -- WHAT LIVES
 -- what has a number that wasn't given, or is a head's, isn't gone
-fresh_lives : (r : Service) (k : ℕ) → 1 ≤ r.next → r.next ≤ volume_of k → is_gone r k ≡ false
+pub fresh_lives : (r : Service) (k : ℕ) → 1 ≤ r.next → r.next ≤ volume_of k → is_gone r k ≡ false
 fresh_lives r k l m = go (list_any (is_head (volume_of k)) r.heads)
   where
     go : (b : Bool) → not (not (eqb (volume_of k) 0) && (leb r.next (volume_of k) || b)) ≡ false
     go b = grind (arith, nat_tests)
 
-head_lives : (r : Service) (v n : ℕ) → 1 ≤ v → n < 1099511627776 → list_any (is_head v) r.heads ≡ true → is_gone r (key_at v n) ≡ false
-head_lives r v n l m e = subst (λ (w : ℕ). not (is_living r.next r.heads w) ≡ false) (sym (volume_of-key_of v (n / 8) (omega arith))) (go (list_any (is_head v) r.heads) e)
+pub block_lives : (r : Service) (v b : ℕ) → 1 ≤ v → b < 137438953472 → list_any (is_head v) r.heads ≡ true → is_gone r (key_of v b) ≡ false
+block_lives r v b l m e = subst (λ (w : ℕ). not (is_living r.next r.heads w) ≡ false) (sym (volume_of-key_of v b m)) (go (list_any (is_head v) r.heads) e)
   where
-    go : (b : Bool) → b ≡ true → not (not (eqb v 0) && (leb r.next v || b)) ≡ false
-    go b q = grind (arith, nat_tests)
+    go : (c : Bool) → c ≡ true → not (not (eqb v 0) && (leb r.next v || c)) ≡ false
+    go c q = grind (arith, nat_tests)
+
+head_lives : (r : Service) (v n : ℕ) → 1 ≤ v → n < 1099511627776 → list_any (is_head v) r.heads ≡ true → is_gone r (key_at v n) ≡ false
+head_lives r v n l m e = block_lives r v (n / 8) l (omega arith) e
 
 not_both : {A : Type 0} (b : Bool) → b ≡ true → b ≡ false → A
 not_both b p q = never (sym p ∙ q)
