@@ -11,10 +11,10 @@ use Rattle.wire.specs.Kinds.{is_built}
 use Rattle.wire.specs.Calls.{decoded}
 use Rattle.wire.specs.Answers.{answer_bytes}
 use Rattle.volumes.specs.Service.{Service, Served, blank_service}
-use Rattle.copies.specs.Service.{Change, overwritten, Lawful}
+use Rattle.copies.specs.Service.{Change, overwritten}
 use Rattle.served.specs.Blocks.{Block, empty_block}
 use Rattle.served.specs.Room.{is_gone, IsBlock, HasRoom}
-use Rattle.served.specs.Served.{seen, serves_decoded, serves_bytes, changes_of, reply_to, next_after, changes_by, busy_bytes, told, volume_service}
+use Rattle.served.specs.Served.{seen, serves_decoded, serves_bytes, changes_of, reply_to, next_after, changes_by, busy_bytes, told, IsLawful, NeverBusy}
 use Rattle.served.proofs.Seeing.{seen-living, seen-same}
 use Rattle.served.proofs.Steps.{Calm, Leaves, stays, makes, attaches, writes, drops, leaves}
 use Rattle.served.proofs.Living.{never, gone-stays}
@@ -87,18 +87,21 @@ calm_left room r f s (attaches v h e) = tt
 calm_left room r f s (writes v n b h e l w x) = tt
 calm_left room r f s (drops v h e) = tt
 
-pub never_busy : (room : ℕ) (o : List ℕ) (r : Service) (f : ℕ → Block) → reply_to room o r f ≢ busy_bytes
+not_busy : (room : ℕ) (o : List ℕ) (r : Service) (f : ℕ → Block) → reply_to room o r f ≢ busy_bytes
 unfolding serves_bytes
-never_busy room o r f = calm_bytes _ (calm_left room r (seen r f) _ (leaves room r (seen r f) o))
+not_busy room o r f = calm_bytes _ (calm_left room r (seen r f) _ (leaves room r (seen r f) o))
 
--- so that customers are told the reply as it is
-pub told_so : (room : ℕ) (o : List ℕ) (r : Service) (f : ℕ → Block) → told (reply_to room o r f) ≡ reply_to room o r f
+pub never_busy : NeverBusy
 unfolding told
-told_so room o r f = by_test (λ (bs : List ℕ). bs ≡ reply_to room o r f) (bytes_eq (reply_to room o r f) busy_bytes) (λ t. absurd (never_busy room o r f ((bytes_eq-Decides (reply_to room o r f) busy_bytes).0 t))) (λ _. refl)
+never_busy room o r f =
+    (
+      not_busy room o r f,
+      by_test (λ (bs : List ℕ). bs ≡ reply_to room o r f) (bytes_eq (reply_to room o r f) busy_bytes) (λ t. absurd (not_busy room o r f ((bytes_eq-Decides (reply_to room o r f) busy_bytes).0 t))) (λ _. refl),
+    )
 
 unlike : (a : List ℕ) → told a ≡ busy_bytes → ⊥
 unfolding told
 unlike a = by_test (λ (bs : List ℕ). bs ≡ busy_bytes → ⊥) (bytes_eq a busy_bytes) (λ _. calm_bytes (No 1) (λ x. omega arith)) (λ t e. never (sym ((bytes_eq-Decides a busy_bytes).1 e) ∙ t))
 
-pub lawful : (room : ℕ) → Lawful (volume_service room)
+pub lawful : IsLawful
 lawful room = record { gone_stays = gone_stays room; agrees = agrees room; room_first = room_first room; room_stays = room_stays room; room_same = room_same room; unlike = unlike }
