@@ -1,5 +1,5 @@
 -- Lists of heads whose numbers rise: what is added, changed or taken out; and what each of them counts.
-use Rattle.std.proofs.Common.{◌≡◌, ℕ, suc, ◌+◌, ◌<◌, ◌≤◌, Bool, true, false, cond, ◌||◌, ◌≢◌, List, [], ◌∷◌, ◌++◌, eqb, sym, refl, ap, ◌∙◌, subst, arith, eqb-true, eq-eqb}
+use Rattle.std.proofs.Common.{◌≡◌, ℕ, suc, ◌+◌, ◌<◌, ◌≤◌, Bool, true, false, cond, ◌||◌, ◌≢◌, List, [], ◌∷◌, ◌++◌, eqb, sym, refl, ap, ap₂, ◌∙◌, subst, arith, eqb-true, eq-eqb, ne_eqb}
 use borrow.Author.Tests.{eqb-false}
 use Rattle.std.specs.List.{list_any}
 use Rattle.agreement.proofs.Base.{by_test}
@@ -33,6 +33,20 @@ pub rising_without : (f : Head → Bool) (low high : ℕ) (hs : List Head) → R
 unfolding without
 rising_without f low high [] r = r
 rising_without f low high (h ∷ hs) r = by_test (Rising low high) (f h) (λ _. rising_wider (suc h.number.0) low high hs (omega (arith, r.0)) r.1) (λ _. (r.0, rising_without f (suc h.number.0) high hs r.1))
+
+-- none has a number below
+none_below : (v low high : ℕ) (hs : List Head) → v < low → Rising low high hs → list_any (is_head v) hs ≡ false
+none_below v low high [] l r = refl
+none_below v low high (h ∷ hs) l r = ap₂ (λ (a b : Bool). a || b) (ne_eqb v h.number.0 (omega (arith, l, r.0))) (none_below v (suc h.number.0) high hs (omega (arith, l, r.0)) r.1)
+
+-- and none the number that was taken out
+pub none_without : (v low high : ℕ) (hs : List Head) → Rising low high hs → list_any (is_head v) (without (is_head v) hs) ≡ false
+unfolding without
+none_without v low high [] r = refl
+none_without v low high (h ∷ hs) r =
+    by_test (λ (ks : List Head). list_any (is_head v) ks ≡ false) (eqb v h.number.0)
+    (λ t. none_below v (suc h.number.0) high hs (omega (arith, eqb-true v h.number.0 t)) r.1)
+    (λ t. ap₂ (λ (a b : Bool). a || b) t (none_without v (suc h.number.0) high hs r.1))
 
 -- what is found
 found_first : {A : Type 0} (b : Bool) (x y : A) (ys : List A) → b ≡ true → cond b (x ∷ []) ys ≡ y ∷ [] → x ≡ y

@@ -21,7 +21,7 @@ use Rattle.served.proofs.Living.{never, gone-stays}
 use Rattle.served.proofs.Rooms.{room_same, left_room}
 
 -- WHAT IS GONE
-gone_stays : (room : ℕ) (o : List ℕ) (r : Service) (f : ℕ → Block) (k : ℕ) → is_gone r k ≡ true → is_gone (next_after room o r f) k ≡ true
+pub gone_stays : (room : ℕ) (o : List ℕ) (r : Service) (f : ℕ → Block) (k : ℕ) → is_gone r k ≡ true → is_gone (next_after room o r f) k ≡ true
 unfolding serves_bytes
 gone_stays room o r f k = gone-stays room r (seen r f) _ (leaves room r (seen r f) o) k
 
@@ -37,14 +37,14 @@ agrees room o r f g e =
     )
 
 -- ROOM
-blank_block : IsBlock empty_block
+pub blank_block : IsBlock empty_block
 unfolding zeros
 blank_block = record { eight = refl; whole = All-replicate (λ (s : List ℕ). length s ≡ 512) 8 (zeros 512) refl }
 
 room_first : (room : ℕ) → HasRoom room blank_service (λ k. empty_block)
 room_first room = record { rising = omega arith; counts = tt; weight = refl; within = omega arith; blocks = λ k e. blank_block; fresh = λ k l. refl }
 
-either : (r : Service) (f g : ℕ → Block) (k : ℕ) → (is_gone r k ≡ false → f k ≡ g k) → (is_gone r k ≡ true) ⊎ (f k ≡ g k)
+pub either : (r : Service) (f g : ℕ → Block) (k : ℕ) → (is_gone r k ≡ false → f k ≡ g k) → (is_gone r k ≡ true) ⊎ (f k ≡ g k)
 either r f g k c = go (is_gone r k) c
   where
     go : (b : Bool) → (b ≡ false → f k ≡ g k) → (b ≡ true) ⊎ (f k ≡ g k)
@@ -52,7 +52,7 @@ either r f g k c = go (is_gone r k) c
     go false d = inr (d refl)
 
 -- what agrees at a key agrees after changes
-overwritten_same : (cs : List (Change Block)) (f g : ℕ → Block) (k : ℕ) → f k ≡ g k → overwritten cs f k ≡ overwritten cs g k
+pub overwritten_same : (cs : List (Change Block)) (f g : ℕ → Block) (k : ℕ) → f k ≡ g k → overwritten cs f k ≡ overwritten cs g k
 unfolding overwritten
 overwritten_same [] f g k e = e
 overwritten_same (c ∷ cs) f g k e = overwritten_same cs _ _ k (ap (λ (b : Block). cond (eqb k c.key) c.block b) e)

@@ -1,4 +1,5 @@
 mod Seeing
+mod Decoding
 mod Steps
 mod Living
 mod Heads
@@ -7,3 +8,5 @@ mod Rooms
 mod Lawful
 mod Totals
 mod Bounds
+mod Sectors
+mod OnePlace

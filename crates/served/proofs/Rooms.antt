@@ -63,7 +63,7 @@ module _ (room : ℕ) (r : Service) (f g : ℕ → Block) (e : (k : ℕ) → (is
       }
 
 -- EACH CALL
-empty_zeros : (i : ℕ) → i < 8 → slice_index_or empty_block i (zeros 512) ≡ zeros 512
+pub empty_zeros : (i : ℕ) → i < 8 → slice_index_or empty_block i (zeros 512) ≡ zeros 512
 empty_zeros i l = All-replicate (λ (s : List ℕ). s ≡ zeros 512) 8 (zeros 512) refl i (zeros 512) l
 
 module _ (room : ℕ) (r : Service) (f : ℕ → Block) (p : HasRoom room r f) where
@@ -113,19 +113,20 @@ module _ (room : ℕ) (r : Service) (f : ℕ → Block) (p : HasRoom room r f) w
         fresh = p.fresh;
       }
 
+  -- a sector within a head's size
+  pub held_below : (v n : ℕ) (h : Head) → find (is_head v) r.heads ≡ h ∷ [] → n < h.size.0 → n < 1099511627776
+  held_below v n h e l = omega (arith, l, (count_found f (is_head v) r.heads h e p.counts).size)
+
+  pub held_between : (v : ℕ) (h : Head) → find (is_head v) r.heads ≡ h ∷ [] → (v ≡ h.number.0) × (1 ≤ v) × (v < r.next)
+  held_between v h e = found_between v 1 r.next r.heads h p.rising e
+
+  pub held_lives : (v n : ℕ) (h : Head) → find (is_head v) r.heads ≡ h ∷ [] → n < h.size.0 → is_gone r (key_at v n) ≡ false
+  held_lives v n h e l = head_lives r v n (held_between v h e).1 (held_below v n h e l) (any_found v r.heads h e)
+
   -- WRITES: one sector holds b, in blocks g
   module _ (v n : ℕ) (b : List ℕ) (h : Head) (e : find (is_head v) r.heads ≡ h ∷ []) (l : n < h.size.0) (w : length b ≡ 512) (fits : (all_zero (sector_in f v n) && not (all_zero b) && ltb room (r.weight + 1)) ≡ false) where
     abbrev was : List ℕ
     was = sector_in f v n
-
-    below : n < 1099511627776
-    below = omega (arith, l, (count_found f (is_head v) r.heads h e p.counts).size)
-
-    numbered : (v ≡ h.number.0) × (1 ≤ v) × (v < r.next)
-    numbered = found_between v 1 r.next r.heads h p.rising e
-
-    lives : is_gone r (key_at v n) ≡ false
-    lives = head_lives r v n numbered.1 below (any_found v r.heads h e)
 
     used_within : h.used ≤ r.weight
     used_within = omega (arith, p.weight, weighs-without v r.heads h e)
@@ -145,13 +146,13 @@ module _ (room : ℕ) (r : Service) (f : ℕ → Block) (p : HasRoom room r f) w
         others k o c = counts_same f g k (λ m i. sym (s k.number.0 m i ∙ ap (λ (x : Bool). cond (x && eqb m n) b (sector_in f k.number.0 m)) (ne_eqb k.number.0 v o))) c
 
         of_v : (m : ℕ) → m < 1099511627776 → sector_in g h.number.0 m ≡ cond (eqb m n) b (sector_in f h.number.0 m)
-        of_v m i = s h.number.0 m i ∙ ap (λ (x : Bool). cond (x && eqb m n) b (sector_in f h.number.0 m)) (eq-eqb h.number.0 v (sym numbered.0))
+        of_v m i = s h.number.0 m i ∙ ap (λ (x : Bool). cond (x && eqb m n) b (sector_in f h.number.0 m)) (eq-eqb h.number.0 v (sym (held_between v h e).0))
 
         here : Counts f h → Counts g (with_used (counts room r f was b h) h)
         here c =
             record {
               size = c.size;
-              count = used_same h.size.0 _ (λ m. cond (eqb m n) b (sector_in f h.number.0 m)) (λ m i. of_v m (omega (arith, c.size))) ∙ recounted h.size.0 n b (sector_in f h.number.0) _ l (λ m. refl) ∙ ap₂ (λ (u k : ℕ). recount (all_zero (sector_in f u n)) (all_zero b) k) (sym numbered.0) c.count;
+              count = used_same h.size.0 _ (λ m. cond (eqb m n) b (sector_in f h.number.0 m)) (λ m i. of_v m (omega (arith, c.size))) ∙ recounted h.size.0 n b (sector_in f h.number.0) _ l (λ m. refl) ∙ ap₂ (λ (u k : ℕ). recount (all_zero (sector_in f u n)) (all_zero b) k) (sym (held_between v h e).0) c.count;
               beyond = λ m i j. of_v m j ∙ ap (λ (x : Bool). cond x b (sector_in f h.number.0 m)) (ne_eqb m n (omega (arith, i, l))) ∙ c.beyond m i j;
             }
 
@@ -160,13 +161,13 @@ module _ (room : ℕ) (r : Service) (f : ℕ → Block) (p : HasRoom room r f) w
     write_room =
         by_test (λ (cs : List (Change Block)). HasRoom room (wrote room r f v n was b h).service (overwritten cs f)) (bytes_eq was b)
         (λ t. put_room f (λ u m i. sector-held f v n u m b ((bytes_eq-Decides was b).0 t)) p.blocks p.fresh)
-        (λ _. put_room (over f v n b) (λ u m i. sector-over f v n u m b below i (p.blocks (key_at v n) lives).eight) blocks fresh)
+        (λ _. put_room (over f v n b) (λ u m i. sector-over f v n u m b (held_below v n h e l) i (p.blocks (key_at v n) (held_lives v n h e l)).eight) blocks fresh)
       where
         blocks : (k : ℕ) → is_gone r k ≡ false → IsBlock (over f v n b k)
-        blocks k d = by_test IsBlock (eqb k (key_at v n)) (λ _. block-over n b (f (key_at v n)) w (p.blocks (key_at v n) lives)) (λ _. p.blocks k d)
+        blocks k d = by_test IsBlock (eqb k (key_at v n)) (λ _. block-over n b (f (key_at v n)) w (p.blocks (key_at v n) (held_lives v n h e l))) (λ _. p.blocks k d)
 
         fresh : (k : ℕ) → r.next ≤ volume_of k → over f v n b k ≡ empty_block
-        fresh k i = by_test (λ (x : Block). x ≡ empty_block) (eqb k (key_at v n)) (λ t. absurd (omega (arith, i, below, numbered.2, eqb-true k (key_at v n) t))) (λ _. p.fresh k i)
+        fresh k i = by_test (λ (x : Block). x ≡ empty_block) (eqb k (key_at v n)) (λ t. absurd (omega (arith, i, held_below v n h e l, (held_between v h e).2, eqb-true k (key_at v n) t))) (λ _. p.fresh k i)
 
   pub left_room : (s : Served) → Leaves room r f s → HasRoom room s.service (overwritten (changes_of s.change f) f)
   unfolding changes_of overwritten

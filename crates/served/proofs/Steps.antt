@@ -13,6 +13,7 @@ use Rattle.volumes.specs.Simulation.{read_at, needed}
 use Rattle.volumes.proofs.Lists.{found_one}
 use Rattle.served.specs.Blocks.{Block, sector_in}
 use Rattle.served.specs.Served.{serves_decoded}
+use Rattle.served.proofs.Decoding.{on_decoded}
 
 -- a reply that isn't busy
 abbrev pub Calm : Reply → Type 0
@@ -90,37 +91,17 @@ module _ (room : ℕ) (r : Service) (f : ℕ → Block) where
   on_call (Drop v t) w = on_held v t _ (λ h e. drops v h e)
   on_call (DropPicture p) w = refused 12 (λ x. omega arith)
 
-  -- what bytes decode to
-  abbrev Good : Decoded → Type 0
-  Good (is_call c) = Whole c
-  Good (is_refused n) = n ≢ 11
-
-  good_call : (k : Kind) (bs : List ℕ) → length bs ≡ length_for k → Whole (call_of k bs)
-  good_call kinds.Make bs e = tt
-  good_call kinds.Attach bs e = tt
-  good_call kinds.Read bs e = tt
-  good_call kinds.Write bs e = rw length-drop (omega (arith, e))
-  good_call kinds.Sync bs e = tt
-  good_call kinds.Picture bs e = tt
-  good_call kinds.Copy bs e = tt
-  good_call kinds.Drop bs e = tt
-  good_call kinds.DropPicture bs e = tt
-
-  good : (o : List ℕ) → Good (decoded is_built o)
-  good o = go (kind_in o)
-    where
-      go : (k : Option Kind) → Good (decoded_as is_built k (drop 1 o))
-      go None = λ x. omega arith
-      go (Some k) = by_test Good (is_built k) (λ _. parse (eqb (length (drop 1 o)) (length_for k)) (eqb→eq (length (drop 1 o)) (length_for k))) (λ _ x. omega arith)
-        where
-          parse : (b : Bool) → (T b → length (drop 1 o) ≡ length_for k) → Good (or_malformed (cond b (Some (call_of k (drop 1 o))) None))
-          parse true l = good_call k (drop 1 o) (l tt)
-          parse false l = λ x. omega arith
-
-  on_decoded : (d : Decoded) → Good d → Leaves (serves_decoded room d r f)
-  unfolding serves_decoded
-  on_decoded (is_call c) g = on_call c g
-  on_decoded (is_refused n) g = refused n g
+  whole : (k : Kind) (bs : List ℕ) → length bs ≡ length_for k → Whole (call_of k bs)
+  whole kinds.Make bs e = tt
+  whole kinds.Attach bs e = tt
+  whole kinds.Read bs e = tt
+  whole kinds.Write bs e = rw length-drop (omega (arith, e))
+  whole kinds.Sync bs e = tt
+  whole kinds.Picture bs e = tt
+  whole kinds.Copy bs e = tt
+  whole kinds.Drop bs e = tt
+  whole kinds.DropPicture bs e = tt
 
   pub leaves : (o : List ℕ) → Leaves (serves_decoded room (decoded is_built o) r f)
-  leaves o = on_decoded (decoded is_built o) (good o)
+  unfolding serves_decoded
+  leaves o = on_decoded (λ (d : Decoded). Leaves (serves_decoded room d r f)) o (refused 1 (λ x. omega arith)) (refused 12 (λ x. omega arith)) (λ k e. on_call (call_of k (drop 1 o)) (whole k (drop 1 o) e))
