@@ -1,16 +1,15 @@
 -- The service is the volumes in one place. Both do the same to heads, if what they read is the same: that is read only within a head's
 -- size, where it lives. So the meaning is met, as it is met in one place.
-use Rattle.std.proofs.Common.{◌≡◌, ℕ, suc, ◌+◌, ◌*◌, ◌/◌, ◌%◌, ◌<◌, ◌≤◌, Bool, true, false, cond, not, ◌&&◌, ◌||◌, T, ◌⊎◌, List, [], ◌∷◌, length, slice_index_or, drop, Some, None, Option, eqb, leb, ltb, sym, refl, ap, ◌∙◌, subst, inl, inr, arith, length-drop}
+use Rattle.std.proofs.Common.{◌≡◌, ℕ, ◌/◌, ◌%◌, ◌<◌, ◌≤◌, Bool, true, false, cond, not, ◌&&◌, ◌||◌, T, List, [], ◌∷◌, length, slice_index_or, drop, eqb, leb, ltb, sym, refl, ap, ◌∙◌, arith, length-drop}
 use Rattle.std.specs.List.{list_any}
 use Rattle.std.proofs.lemmas.Bool.Decides.{nat_tests}
-use Rattle.agreement.proofs.Base.{by_test}
 use Rattle.disks.specs.Device.{zeros, all_bytes}
-use Rattle.disks.specs.Disks.{find, all_zero, State, blank, Answers, core, Call, Make, Attach, Read, Write, Sync, Picture', Copy, Drop, DropPicture, Reply, No, Sector}
+use Rattle.disks.specs.Disks.{find, State, Call, Make, Attach, Read, Write, Sync, Picture', Copy, Drop, DropPicture, No, Sector}
 use Rattle.octets.proofs.Fields.{bytes_drop}
 use Rattle.wire.specs.declared.kind.Kind.{Kind}
 use Rattle.wire.specs.declared.kind.Kind.TheVariants as kinds
-use Rattle.wire.specs.Kinds.{kind_in, is_built}
-use Rattle.wire.specs.Calls.{Decoded, is_call, is_refused, or_malformed, decoded_as, decoded, length_for, call_of}
+use Rattle.wire.specs.Kinds.{is_built}
+use Rattle.wire.specs.Calls.{Decoded, is_call, is_refused, decoded, length_for, call_of}
 use Rattle.wire.specs.Answers.{answer_bytes}
 use Rattle.volumes.specs.declared.head.Head.{Head}
 use Rattle.volumes.specs.Service.{Service, blank_service, Served, says, is_head, is_living, held, within, writes_head, serves}
@@ -18,7 +17,7 @@ use Rattle.volumes.specs.Simulation.{Sectors, Store, blank_store, changed_by, re
 use Rattle.volumes.proofs.Lists.{found_one}
 use Rattle.volumes.proofs.Alike.{serves_the_meaning}
 use Rattle.copies.specs.Service.{overwritten}
-use Rattle.served.specs.Blocks.{Block, empty_block, volume_of, key_of, key_at, sector_in}
+use Rattle.served.specs.Blocks.{Block, empty_block, key_at, sector_in}
 use Rattle.served.specs.Room.{is_gone, HasRoom}
 use Rattle.served.specs.Served.{seen, serves_decoded, serves_bytes, changes_of, reply_to, next_after, changes_by}
 use Rattle.served.specs.OnePlace.{Alike, answer_at, left_at, AsOnePlace, Means, Allowed, AsTheMeaning}
