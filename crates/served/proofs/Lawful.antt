@@ -29,8 +29,7 @@ agrees : (room : ℕ) (o : List ℕ) (r : Service) (f g : ℕ → Block) → ((k
     (reply_to room o r f ≡ reply_to room o r g) × (next_after room o r f ≡ next_after room o r g) × (changes_by room o r f ≡ changes_by room o r g)
 unfolding serves_bytes
 agrees room o r f g e =
-    let same : seen r f ≡ seen r g = seen-same r f g e in
-    (
+    let same : seen r f ≡ seen r g = seen-same r f g e in (
       ap (λ (h : ℕ → Block). answer_bytes (serves_decoded room (decoded is_built o) r h).reply) same,
       ap (λ (h : ℕ → Block). (serves_decoded room (decoded is_built o) r h).service) same,
       ap (λ (h : ℕ → Block). changes_of (serves_decoded room (decoded is_built o) r h).change h) same,
@@ -97,11 +96,10 @@ not_busy room o r f = left_bytes room r (seen r f) _ (leaves room r (seen r f) o
 
 pub never_busy : NeverBusy
 unfolding told
-never_busy room o r f =
-    (
-      not_busy room o r f,
-      by_test (λ (bs : List ℕ). bs ≡ reply_to room o r f) (bytes_eq (reply_to room o r f) busy_bytes) (λ t. absurd (not_busy room o r f ((bytes_eq-Decides (reply_to room o r f) busy_bytes).0 t))) (λ _. refl),
-    )
+never_busy room o r f = (
+  not_busy room o r f,
+  by_test (λ (bs : List ℕ). bs ≡ reply_to room o r f) (bytes_eq (reply_to room o r f) busy_bytes) (λ t. absurd (not_busy room o r f ((bytes_eq-Decides (reply_to room o r f) busy_bytes).0 t))) (λ _. refl),
+)
 
 unlike : (a : List ℕ) → told a ≡ busy_bytes → ⊥
 unfolding told

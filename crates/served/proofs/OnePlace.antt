@@ -21,7 +21,8 @@ use Rattle.served.specs.Blocks.{Block, empty_block, key_at, sector_in}
 use Rattle.served.specs.Room.{is_gone, HasRoom}
 use Rattle.served.specs.Served.{seen, serves_decoded, serves_bytes, changes_of, reply_to, next_after, changes_by}
 use Rattle.served.specs.OnePlace.{Alike, answer_at, left_at, AsOnePlace, Means, Allowed, AsTheMeaning}
-use Rattle.served.proofs.Seeing.{volume_of-key_of, seen-living}
+use Rattle.served.proofs.Keys.{volume_of-key_of}
+use Rattle.served.proofs.Seeing.{seen-living}
 use Rattle.served.proofs.Decoding.{on_decoded}
 use Rattle.served.proofs.Steps.{Leaves, leaves}
 use Rattle.served.proofs.Living.{any_found, lived}

@@ -16,7 +16,7 @@ use Rattle.copies.specs.Service.{Change, overwritten}
 use Rattle.served.specs.Blocks.{Block, empty_block, key_of, volume_of, key_at, sector_in}
 use Rattle.served.specs.Room.{is_gone, Counts, IsBlock, HasRoom}
 use Rattle.served.specs.Served.{changes_of}
-use Rattle.served.proofs.Seeing.{volume_of-key_of}
+use Rattle.served.proofs.Keys.{volume_of-key_of}
 use Rattle.served.proofs.Steps.{Leaves, stays, reads, makes, attaches, writes, drops, made, attached, wrote, dropped, counts}
 use Rattle.served.proofs.Living.{never, any_found, gone-stays}
 use Rattle.served.proofs.Heads.{length-changed, length_without, rising_bound, rising_pushed, rising-changed, rising_without, found_between, counts_same, count_pushed, count_without, count_found, count_each, count-changed}
@@ -130,6 +130,12 @@ module _ (room : ℕ) (r : Service) (f : ℕ → Block) (p : HasRoom room r f) w
 
   pub held_lives : (v n : ℕ) (h : Head) → find (is_head v) r.heads ≡ h ∷ [] → n < h.size.0 → is_gone r (key_at v n) ≡ false
   held_lives v n h e l = head_lives r v n (held_between v h e).1 (held_below v n h e l) (any_found v r.heads h e)
+
+  -- sectors are whole
+  pub held_whole : (v n : ℕ) (h : Head) → find (is_head v) r.heads ≡ h ∷ [] → n < h.size.0 → length (sector_in f v n) ≡ 512
+  held_whole v n h e l =
+      let b : IsBlock (f (key_at v n)) = p.blocks (key_at v n) (held_lives v n h e l) in
+      b.whole (n % 8) (zeros 512) (omega (arith, b.eight))
 
   -- WRITES: one sector holds b, in blocks g
   module _ (v n : ℕ) (b : List ℕ) (h : Head) (e : find (is_head v) r.heads ≡ h ∷ []) (l : n < h.size.0) (w : length b ≡ 512) (fits : (all_zero (sector_in f v n) && not (all_zero b) && ltb room (r.weight + 1)) ≡ false) where

@@ -1,10 +1,11 @@
 -- The volumes as a service that is replicated: calls and answers are bytes, the heads are the rest, what volumes hold the blocks.
 -- Assumes nothing.
-use Rattle.std.specs.Prelude.{◌≡◌, ◌≢◌, ℕ, cond, List, [], ◌∷◌, bytes_eq}
+use Rattle.std.specs.Prelude.{◌≡◌, ◌≢◌, ℕ, ◌≤◌, cond, List, [], ◌∷◌, length, bytes_eq}
 use Rattle.disks.specs.Disks.{No}
 use Rattle.wire.specs.Kinds.{is_built}
 use Rattle.wire.specs.Calls.{Decoded, is_call, is_refused, decoded}
 use Rattle.wire.specs.Answers.{answer_bytes}
+use Rattle.wire.specs.Promises.{Said}
 use Rattle.volumes.specs.Service.{Service, blank_service, Changed, keeps, puts, forgets, Served, says, serves}
 use Rattle.volumes.specs.Simulation.{read_at, needed}
 use Rattle.copies.specs.Service.{Change, Service as Replicated, Lawful}
@@ -65,6 +66,10 @@ volume_service room =
 abbrev pub IsLawful : Type 0
 IsLawful = (room : ℕ) → Lawful (volume_service room)
 
--- customers are told each reply as it is
+-- Each reply has a spelling, of at most 513 bytes.
+abbrev pub RepliesFit : Type 0
+RepliesFit = (room : ℕ) (o : List ℕ) (r : Service) (f : ℕ → Block) → HasRoom room r f → Said (serves_bytes room o r f).reply × (length (reply_to room o r f) ≤ 513)
+
+-- Customers are told each reply as it is.
 abbrev pub NeverBusy : Type 0
 NeverBusy = (room : ℕ) (o : List ℕ) (r : Service) (f : ℕ → Block) → (reply_to room o r f ≢ busy_bytes) × (told (reply_to room o r f) ≡ reply_to room o r f)
