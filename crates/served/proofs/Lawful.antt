@@ -7,14 +7,12 @@ use Rattle.std.proofs.lemmas.List.Elements.{All-replicate}
 use Rattle.agreement.proofs.Base.{by_test}
 use Rattle.disks.specs.Device.{zeros}
 use Rattle.disks.specs.Disks.{Reply, No, Yes, Num, Token, Sector, Full}
-use Rattle.wire.specs.Kinds.{is_built}
-use Rattle.wire.specs.Calls.{decoded}
 use Rattle.wire.specs.Answers.{answer_bytes}
 use Rattle.volumes.specs.Service.{Service, Served, blank_service}
 use Rattle.copies.specs.Service.{Change, overwritten}
 use Rattle.served.specs.Blocks.{Block, empty_block}
 use Rattle.served.specs.Room.{is_gone, IsBlock, HasRoom}
-use Rattle.served.specs.Served.{seen, serves_decoded, serves_bytes, changes_of, reply_to, next_after, changes_by, busy_bytes, told, IsLawful, NeverBusy}
+use Rattle.served.specs.Served.{seen, serves_decoded, decoded_call, serves_bytes, changes_of, reply_to, next_after, changes_by, busy_bytes, told, IsLawful, NeverBusy}
 use Rattle.served.proofs.Seeing.{seen-living, seen-same}
 use Rattle.served.proofs.Steps.{Calm, Leaves, stays, reads, makes, attaches, writes, drops, leaves}
 use Rattle.served.proofs.Living.{never, gone-stays}
@@ -30,9 +28,9 @@ agrees : (room : ℕ) (o : List ℕ) (r : Service) (f g : ℕ → Block) → ((k
 unfolding serves_bytes
 agrees room o r f g e =
     let same : seen r f ≡ seen r g = seen-same r f g e in (
-      ap (λ (h : ℕ → Block). answer_bytes (serves_decoded room (decoded is_built o) r h).reply) same,
-      ap (λ (h : ℕ → Block). (serves_decoded room (decoded is_built o) r h).service) same,
-      ap (λ (h : ℕ → Block). changes_of (serves_decoded room (decoded is_built o) r h).change h) same,
+      ap (λ (h : ℕ → Block). answer_bytes (serves_decoded room (decoded_call o) r h).reply) same,
+      ap (λ (h : ℕ → Block). (serves_decoded room (decoded_call o) r h).service) same,
+      ap (λ (h : ℕ → Block). changes_of (serves_decoded room (decoded_call o) r h).change h) same,
     )
 
 -- ROOM

@@ -12,3 +12,4 @@ pub mod Bounds
 pub mod Sectors
 pub mod Replies
 pub mod OnePlace
+pub mod Meaning

@@ -6,14 +6,13 @@ use Rattle.disks.specs.Disks.{find, change, all_zero, Call, Make, Attach, Read, 
 use Rattle.wire.specs.declared.kind.Kind.{Kind}
 use Rattle.wire.specs.declared.kind.Kind.TheVariants as kinds
 use Rattle.wire.specs.Refusals.{refusal_of}
-use Rattle.wire.specs.Kinds.{is_built}
-use Rattle.wire.specs.Calls.{Decoded, decoded, length_for, call_of}
+use Rattle.wire.specs.Calls.{Decoded, length_for, call_of}
 use Rattle.volumes.specs.declared.head.Head.{Head}
 use Rattle.volumes.specs.Service.{Service, keeps, puts, forgets, Served, says, is_head, with_token, with_used, new_head, recount, without, attaches_head, held, within, serves}
 use Rattle.volumes.specs.Simulation.{read_at, needed}
 use Rattle.volumes.proofs.Lists.{found_one}
 use Rattle.served.specs.Blocks.{Block, sector_in}
-use Rattle.served.specs.Served.{serves_decoded}
+use Rattle.served.specs.Served.{serves_decoded, decoded_call}
 use Rattle.served.proofs.Decoding.{on_decoded}
 
 -- what is said where nothing changes: a refusal, but not busy, that it is full, or yes
@@ -104,6 +103,6 @@ module _ (room : ℕ) (r : Service) (f : ℕ → Block) where
   whole kinds.Drop bs e = tt
   whole kinds.DropPicture bs e = tt
 
-  pub leaves : (o : List ℕ) → Leaves (serves_decoded room (decoded is_built o) r f)
+  pub leaves : (o : List ℕ) → Leaves (serves_decoded room (decoded_call o) r f)
   unfolding serves_decoded
-  leaves o = on_decoded (λ (d : Decoded). Leaves (serves_decoded room d r f)) o (refused 1 ((λ x. omega arith), refl)) (refused 12 ((λ x. omega arith), refl)) (λ k e. on_call (call_of k (drop 1 o)) (whole k (drop 1 o) e))
+  leaves o = on_decoded (λ (d : Decoded). Leaves (serves_decoded room d r f)) o (refused 1 ((λ x. omega arith), refl)) (refused 12 ((λ x. omega arith), refl)) (λ k t e. on_call (call_of k (drop 1 o)) (whole k (drop 1 o) e))
