@@ -1,0 +1,4 @@
+pub mod Blocks
+pub mod Room
+pub mod Served
+pub mod OnePlace
