@@ -6,5 +6,6 @@ pub mod Meaning
 pub mod Changes
 pub mod Ranges
 pub mod Replaces
+pub mod Replacing
 pub mod Tables
 pub mod Agreements

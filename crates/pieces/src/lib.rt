@@ -3,6 +3,7 @@
 
 pub mod changed;
 pub mod entry;
+pub mod filled;
 pub mod forget;
 pub mod layout;
 pub mod load;
