@@ -1,5 +1,5 @@
 -- What is listed to be written, step by step: what places hold then, and that no entry that changed is missing.
-use Rattle.std.proofs.Common.{◌≡◌, ◌⊎◌, inl, inr, ℕ, zero, suc, ◌+◌, ◌*◌, ◌/◌, ◌%◌, ◌<◌, ◌≤◌, Bool, true, false, cond, ◌||◌, ◌==◌, List, [], ◌∷◌, ◌++◌, drop, length, get_or, set, Some, None, Err, Option, refl, sym, ap, ◌∙◌, subst, arith, add-one, nat_lt, vec_items}
+use Rattle.std.proofs.Common.{◌≡◌, ◌⊎◌, inl, inr, ℕ, zero, suc, ◌+◌, ◌*◌, ◌/◌, ◌%◌, ◌<◌, ◌≤◌, Bool, true, false, cond, ◌||◌, ◌==◌, List, [], ◌∷◌, ◌++◌, drop, length, get_or, set, Some, None, Err, Option, Result, refl, sym, ap, ◌∙◌, subst, arith, add-one, nat_lt, vec_items}
 use Rattle.std.specs.List.{count_by}
 use Rattle.std.specs.Option.{option_map}
 use Rattle.std.proofs.lemmas.List.{get_or-set_other, get_or_default, drop_more, at_drop_all}
@@ -274,3 +274,10 @@ pub fill_fails : (from : Key) (next : Option Key) (whole : Bool) (most floor : �
 fill_fails from next whole most floor bs k m o p r t NoRoom x y = λ d.
     replaced_as from next whole most floor bs (record { kept = k; data' = d }) ∙ ap (λ (z : Option Held). option_map (floor_raised floor) (then_held (fills_all bs) z)) (x.held d) ∙ ap (option_map (floor_raised floor)) (y d)
 fill_fails from next whole most floor bs k m o p r t NoMemory x y = tt
+
+-- the error that is handed on
+pub handed_on : (f : Held → Option Held) (k m : Kept) (r t : Replaced) (q : Result Unit Unset) (e : Unset) → q ≡ Err e → DoesHeld f k r (Err e) m t → DoesHeld f k r q m t
+handed_on f k m r t q e same x = subst (λ (z : Result Unit Unset). DoesHeld f k r z m t) (sym same) x
+
+pub all_handed_on : (f : Held → Option Held) (k m : Kept) (q : Result Replaced Unset) (e : Unset) → q ≡ Err e → DoesAll f k (Err e) m → DoesAll f k q m
+all_handed_on f k m q e same x = subst (λ (z : Result Replaced Unset). DoesAll f k z m) (sym same) x

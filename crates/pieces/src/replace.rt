@@ -5,7 +5,7 @@ ghost use Rattle.std.specs.List.{count_by};
 ghost use Rattle.pieces.specs.Kept.{the_kept};
 ghost use Rattle.pieces.specs.Changes.{is_below};
 ghost use Rattle.pieces.specs.Ranges.{is_within};
-ghost use Rattle.pieces.specs.Replaces.{sets_held, fills, fills_all, replaces};
+ghost use Rattle.pieces.specs.Replaces.{sets_held, fills, fills_all, replaces, ReplaceMeans};
 ghost use Rattle.pieces.specs.Replacing.{the_filled, indices_where, with_entry, with_sector, the_blocks, gives_up, begins, DoesHeld, DoesAll};
 
 use crate::changed::Key;
@@ -193,6 +193,7 @@ impl Pieces {
     ) -> Result<Replaced, Unset>
         ensures kept { DoesAll (replaces range.from range.next taking.entry.whole taking.entry.most taking.entry.floor.0 (the_blocks taking.entry.blocks.now)) (the_kept self.old) result (the_kept self.new) }
         ensures layout { self.new.layout ≡ self.old.layout }
+        ensures means { ReplaceMeans }
     {
         let mut replaced = self.begin(heap, range, taking)?;
         self.fill_all(heap, taking.blocks, &mut replaced)?;

@@ -1,10 +1,7 @@
-use Rattle.std.proofs.Common.{rules, ◌≡◌, Err, Result, refl, sym, subst, ap, ◌∙◌, length, get_or, vec_items, arith}
+use Rattle.std.proofs.Common.{rules, refl, ap, ◌∙◌, get_or, arith}
 use Rattle.std.proofs.lemmas.List.{length-map, get_or-map}
-use Rattle.pieces.specs.declared.set.Unset.{Unset}
-use Rattle.pieces.specs.Kept.{the_kept}
-use Rattle.pieces.specs.Replaces.{fills_all}
-use Rattle.pieces.specs.Replacing.{the_filled, the_blocks, DoesHeld}
-use Rattle.pieces.proofs.Replacing.{left_all, blocks_one, blocks_fail, blocks_done}
+use Rattle.pieces.specs.Replacing.{the_filled, the_blocks}
+use Rattle.pieces.proofs.Replacing.{left_all, blocks_one, blocks_fail, blocks_done, handed_on}
 use Rattle.pieces.proofs.state.Pieces.fill_all.Goals as goal
 
 pub loop-block-init : goal.loop-block-init
@@ -12,8 +9,7 @@ loop-block-init c = record { kept = left_all _ _ _; layout = refl }
 
 pub returns-in_err-fill-clause-kept : goal.returns-in_err-fill-clause-kept
 returns-in_err-fill-clause-kept c =
-    let same : c.from_residual.result ≡ Err c.in_err-fill.field-0.0 = search rules in
-    subst (λ (e : Result Unit Unset). DoesHeld (fills_all (the_blocks c.args.blocks.now)) (the_kept c.args.self.now) c.args.replaced.now e (the_kept c.fill.new.self) c.fill.new.replaced) (sym same)
+    handed_on _ _ _ _ _ c.from_residual.result c.in_err-fill.field-0.0 (search rules)
     (blocks_fail c.loop-block.block-index (the_blocks c.args.blocks.now) (the_filled c.block-item.result) _ _ _ _ _ _ _ _ _ c.in_err-fill.field-0.0 (omega (arith, c.loop-block-test.true, length-map c.args.blocks.now the_filled)) (get_or-map the_filled c.args.blocks.now c.loop-block.block-index c.block-item.result (the_filled c.block-item.result) c.loop-block-test.true ∙ ap the_filled {x = get_or c.args.blocks.now c.loop-block.block-index c.block-item.result} {y = c.block-item.result} (search rules)) c.loop-block.invariant.kept (c.in_err-fill.ensures {u = tt}).kept)
 
 pub returns-in_err-fill-clause-layout : goal.returns-in_err-fill-clause-layout

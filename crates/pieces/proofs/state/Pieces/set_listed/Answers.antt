@@ -1,5 +1,3 @@
-use Rattle.std.proofs.Common.{vec_items}
-use Rattle.pieces.specs.Kept.{the_kept}
 use Rattle.pieces.proofs.Replacing.{set_goes}
 use Rattle.pieces.proofs.state.Pieces.set_listed.Goals as goal
 
