@@ -7,6 +7,7 @@ pub mod Loading
 pub mod Changes
 pub mod Ranges
 pub mod Replaces
+pub mod Replacing
 pub mod Tables
 pub mod Agreements
 pub mod Counts
