@@ -7,3 +7,4 @@ pub mod Changes
 pub mod Ranges
 pub mod Tables
 pub mod Agreements
+pub mod Hints

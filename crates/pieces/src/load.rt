@@ -40,6 +40,8 @@ impl Pieces {
         if self.index_of(entry.volume, entry.block).is_some() {
             return Err(Unloaded::Broken);
         }
+        // where a place is refused nothing is known of those that are taken
+        self.place_hint = 0;
         take_places(self.taken.as_mut_slice(), &entry.places)?;
         self.place_entry(heap, index, entry)?;
         Ok(())
