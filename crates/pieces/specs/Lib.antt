@@ -12,3 +12,4 @@ pub mod Tables
 pub mod Agreements
 pub mod Counts
 pub mod Fits
+pub mod Hints

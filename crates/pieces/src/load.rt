@@ -47,6 +47,8 @@ impl Pieces {
         if entry.block.0 >= VOLUME_BLOCKS || self.index_of(entry.volume, entry.block).is_some() {
             return Err(Unloaded::Broken);
         }
+        // where a place is refused nothing is known of those that are taken
+        self.place_hint = 0;
         take_places(self.taken.as_mut_slice(), &entry.places)?;
         self.place_entry(heap, index, entry)?;
         Ok(())

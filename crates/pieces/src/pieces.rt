@@ -1,9 +1,10 @@
 // Where things are, and how an entry of the directory changes.
-ghost use Rattle.std.specs.Prelude.{◌≡◌, ◌<◌, ◌/◌, ◌%◌, length, not, IfOk, OnOk, OnErr, None, position, slice_set, slice_index_or};
+ghost use Rattle.std.specs.Prelude.{◌≡◌, ◌<◌, ◌/◌, ◌%◌, length, min, cond, not, IfOk, OnOk, OnErr, None, position, slice_set, slice_index_or};
 ghost use Rattle.pieces.specs.Entries.{is_block, is_empty, is_free, free_entry};
 ghost use Rattle.pieces.specs.Meaning.{BlankMeans, PlacesApart};
 ghost use Rattle.pieces.specs.Kept.{the_kept, blank_kept, index_of, vacant, free_place, place_of, found, stamp_of, puts_place, frees_place, with_place};
 ghost use Rattle.pieces.specs.Layouts.{entries_of, places_of};
+ghost use Rattle.pieces.specs.Hints.{AllTaken, NoneFree};
 
 use crate::entry::{BLOCK_SECTORS, Block, Entry, Stamp};
 use crate::layout::Layout;
@@ -28,6 +29,8 @@ impl Pieces {
             taken,
             floor: Stamp(0),
             table: Table::new(heap),
+            entry_hint: 0,
+            place_hint: 0,
         })
     }
 
@@ -67,6 +70,46 @@ impl Pieces {
         }
     }
 
+    // The first entry that is free; the next search begins there.
+    fn unused(&mut self) -> Option<usize>
+        ensures index { result ≡ position is_free self.old.entries.items }
+        ensures kept { the_kept self.new ≡ the_kept self.old }
+        ensures layout { self.new.layout ≡ self.old.layout }
+    {
+        let found = unused_behind(self.entries.as_slice(), self.entry_hint);
+        self.entry_hint = match found {
+            Some(index) => index,
+            None => self.entries.len(),
+        };
+        found
+    }
+
+    // An entry that may be used: one that is free, else a marker.
+    pub(crate) fn vacant(&mut self) -> Option<usize>
+        ensures index { result ≡ vacant self.old.entries.items }
+        ensures kept { the_kept self.new ≡ the_kept self.old }
+        ensures layout { self.new.layout ≡ self.old.layout }
+    {
+        match self.unused() {
+            Some(index) => Some(index),
+            None => marker(self.entries.as_slice()),
+        }
+    }
+
+    // The first place that isn't taken; the next search begins there.
+    pub(crate) fn untaken(&mut self) -> Option<usize>
+        ensures place { result ≡ free_place self.old.taken.items }
+        ensures kept { the_kept self.new ≡ the_kept self.old }
+        ensures layout { self.new.layout ≡ self.old.layout }
+    {
+        let found = untaken_behind(self.taken.as_slice(), self.place_hint);
+        self.place_hint = match found {
+            Some(place) => place,
+            None => self.taken.len(),
+        };
+        found
+    }
+
     // One place of an entry changes, and its stamp.
     fn change(&mut self, index: usize, slot: usize, place: u64, stamp: Stamp)
         requires index { index < length self.old.entries.items }
@@ -76,7 +119,9 @@ impl Pieces {
         ensures floor { self.new.floor ≡ self.old.floor }
         ensures layout { self.new.layout ≡ self.old.layout }
     {
-        change(&mut self.entries[index], slot, place, stamp);
+        let entry = &mut self.entries[index];
+        change(entry, slot, place, stamp);
+        self.entry_hint = lowered(self.entry_hint, index, entry);
     }
 
     // An entry is a block's that had none.
@@ -99,6 +144,7 @@ impl Pieces {
         let old = self.entries[index];
         self.table.clear(old.volume, old.block);
         self.entries[index] = entry;
+        self.entry_hint = lowered(self.entry_hint, index, &entry);
         Ok(())
     }
 
@@ -113,6 +159,7 @@ impl Pieces {
         let old = self.entries[index];
         self.table.clear(old.volume, old.block);
         self.entries[index] = Entry::free();
+        self.entry_hint = self.entry_hint.min(index);
     }
 
     #[tactic(auto, unfolding(crate::specs::Kept::puts_place))]
@@ -139,6 +186,7 @@ impl Pieces {
         self.change(index, slot, 0, stamp);
         if place != 0 {
             mark(self.taken.as_mut_slice(), place, false);
+            self.place_hint = self.place_hint.min(place as usize);
         }
     }
 }
@@ -169,27 +217,51 @@ fn unused(entries: &[Entry]) -> Option<usize>
     entries.iter().position(|entry| entry.is_free())
 }
 
+// The same, where none is below the hint.
+#[tactic(auto, using(crate::proofs::Hints::within_hints))]
+fn unused_behind(entries: &[Entry], hint: usize) -> Option<usize>
+    requires { NoneFree hint entries.now }
+    ensures { result ≡ position is_free entries.now }
+{
+    match unused(&entries[hint..]) {
+        Some(at) => Some(hint + at),
+        None => None,
+    }
+}
+
+// The hint where an entry changed to this.
+fn lowered(hint: usize, index: usize, entry: &Entry) -> usize
+    ensures { result ≡ cond (is_free entry.now) (min hint index) hint }
+{
+    if entry.is_free() {
+        hint.min(index)
+    } else {
+        hint
+    }
+}
+
 fn marker(entries: &[Entry]) -> Option<usize>
     ensures { result ≡ position is_empty entries.now }
 {
     entries.iter().position(|entry| entry.is_empty())
 }
 
-// An entry that may be used: one that is free, else a marker.
-pub(crate) fn vacant(entries: &[Entry]) -> Option<usize>
-    ensures { result ≡ vacant entries.now }
-{
-    match unused(entries) {
-        Some(index) => Some(index),
-        None => marker(entries),
-    }
-}
-
-// A place that isn't taken.
-pub(crate) fn place(taken: &[bool]) -> Option<usize>
+fn untaken(taken: &[bool]) -> Option<usize>
     ensures { result ≡ free_place taken.now }
 {
     taken.iter().position(|taken| !*taken)
+}
+
+// The same, where all below the hint are taken.
+#[tactic(auto, using(crate::proofs::Hints::within_hints))]
+fn untaken_behind(taken: &[bool], hint: usize) -> Option<usize>
+    requires { AllTaken hint taken.now }
+    ensures { result ≡ free_place taken.now }
+{
+    match untaken(&taken[hint..]) {
+        Some(at) => Some(hint + at),
+        None => None,
+    }
 }
 
 fn change(entry: &mut Entry, slot: usize, place: u64, stamp: Stamp)

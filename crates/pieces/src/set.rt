@@ -6,7 +6,7 @@ ghost use Rattle.pieces.specs.Meaning.{SetMeans, AlwaysRoom, ZerosNeedNone};
 ghost use Rattle.pieces.specs.Kept.{the_kept, index_of, floor_after, claims_entry, WasClaimed, place_for, sets, was_set, DoesSet};
 
 use crate::entry::{BLOCK_SECTORS, Block, Entry, Stamp};
-use crate::pieces::{block_of, place, slot_of, vacant};
+use crate::pieces::{block_of, slot_of};
 use crate::state::Pieces;
 use octets::SECTOR_BYTES;
 use std::alloc::{AllocError, Global};
@@ -93,7 +93,7 @@ impl Pieces {
         if let Some(index) = self.index_of(volume, block) {
             return Ok(Some(index));
         }
-        let Some(index) = vacant(self.entries.as_slice()) else {
+        let Some(index) = self.vacant() else {
             return Ok(None);
         };
         self.take(heap, index, volume, block, stamp)?;
@@ -129,12 +129,14 @@ impl Pieces {
     }
 
     // The place that a sector has, or one that is free.
-    fn place_for(&self, at: Address) -> Option<u64>
-        ensures { result ≡ place_for at.volume.0 at.sector.0 (the_kept self.now) }
+    fn place_for(&mut self, at: Address) -> Option<u64>
+        ensures place { result ≡ place_for at.volume.0 at.sector.0 (the_kept self.old) }
+        ensures kept { the_kept self.new ≡ the_kept self.old }
+        ensures layout { self.new.layout ≡ self.old.layout }
     {
         match self.find(at) {
             Some(place) => Some(place),
-            None => match place(self.taken.as_slice()) {
+            None => match self.untaken() {
                 Some(place) => Some(place as u64),
                 None => None,
             },
