@@ -1,0 +1,3 @@
+pub mod Blocks
+pub mod Served
+pub mod Room
