@@ -8,3 +8,4 @@ pub mod Ranges
 pub mod Replaces
 pub mod Tables
 pub mod Agreements
+pub mod Counts

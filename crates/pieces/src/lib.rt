@@ -2,6 +2,7 @@
 #![tactic(auto)]
 
 pub mod changed;
+pub mod counts;
 pub mod entry;
 pub mod forget;
 pub mod layout;
