@@ -1,0 +1,2 @@
+// How a house keeps blocks on its directory: a keeper, and its laws.
+#![tactic(auto)]
