@@ -1,6 +1,6 @@
 -- How a house keeps blocks on its directory: what is done to what is kept, with what the places of data hold.
 -- Assumes nothing.
-use Rattle.std.specs.Prelude.{ℕ, zero, suc, ◌+◌, ◌*◌, ◌<◌, Bool, true, false, cond, not, ◌&&◌, ◌||◌, List, [], ◌∷◌, length, map, ◌==◌, Some, None, Option, bytes_eq, eqb}
+use Rattle.std.specs.Prelude.{◌≡◌, ℕ, zero, suc, ◌+◌, ◌*◌, ◌<◌, Bool, true, false, cond, not, ◌&&◌, ◌||◌, List, [], ◌∷◌, length, map, ◌==◌, Some, None, Option, bytes_eq, eqb}
 use Rattle.std.specs.List.{list_all, list_any}
 use Rattle.std.specs.Option.{option_map}
 use Rattle.disks.specs.Device.{zeros}
@@ -19,14 +19,14 @@ use Rattle.served.specs.Blocks.{Block, volume_of, block_of}
 use Rattle.served.specs.Room.{is_gone}
 
 abbrev pub none_held : (size : ℕ) → Held
-none_held size = record { kept = blank_kept size; data = λ p. zeros 512 }
+none_held size = record { kept = blank_kept size; data' = λ p. zeros 512 }
 
 -- the key with this number
 abbrev pub key_at : ℕ → Key
 key_at k = changes.key_of (volume_of k) (block_of k)
 
 unfoldable pub look_held : Held → ℕ → Block
-look_held h k = block_shown h.data h.kept (volume_of k) (block_of k)
+look_held h k = block_shown h.data' h.kept (volume_of k) (block_of k)
 
 unfoldable pub stamp_held : Held → ℕ → ℕ
 stamp_held h k = stamp_of (volume_of k) (block_of k) h.kept
@@ -37,7 +37,7 @@ is_whole b = length b == 8 && list_all (λ bs. length bs == 512) b
 
 -- BLOCKS CHANGE. What is gone goes first.
 abbrev pub tidied_held : Service → Held → Held
-tidied_held r h = record { kept = tidied r.next r.heads h.kept; data = h.data }
+tidied_held r h = record { kept = tidied r.next r.heads h.kept; data' = h.data' }
 
 -- what is to be written: blocks that aren't gone, and of each the last
 abbrev pub is_due : Service → Change Block → List (Change Block) → Bool
@@ -54,7 +54,7 @@ or_held (Some m) h = m
 
 -- A sector is written if it is not what it is to be, zeros in one pass and all others in another.
 unfoldable pub writes_sector : (blank : Bool) → (version volume sector : ℕ) → List ℕ → Held → Held
-writes_sector z w v n bs h = cond (eqb_bool z (all_zero bs) && not (bytes_eq (shown h.data h.kept v n) bs)) (or_held (sets_held v n bs w h) h) h
+writes_sector z w v n bs h = cond (eqb_bool z (all_zero bs) && not (bytes_eq (shown h.data' h.kept v n) bs)) (or_held (sets_held v n bs w h) h) h
   where
     eqb_bool : Bool → Bool → Bool
     eqb_bool true b = b
@@ -113,9 +113,9 @@ take_held r whole key next floor bs h = cond (in_order key next bs) (replaces (k
 pub record Good (size : ℕ) (h : Held) : Type 0 where
   pub sound : Sound size h.kept
   pub clean : Clean h.kept
-  pub blanks : NoBlanks h.data h.kept
+  pub blanks : NoBlanks h.data' h.kept
   pub small : (i : ℕ) → (entry_at i h.kept).block.0 < 137438953472
-  pub whole : (p : ℕ) → length (h.data p) ≡ 512
+  pub whole : (p : ℕ) → length (h.data' p) ≡ 512
 
 pub record Keeping (size : ℕ) : Type 0 where
   pub held : Held

@@ -1,0 +1,43 @@
+-- Keys as numbers: a number below 2^37 of blocks for each volume, in the same order.
+use Rattle.std.proofs.Common.{◌≡◌, ℕ, zero, suc, ◌+◌, ◌*◌, ◌/◌, ◌%◌, ◌<◌, ◌≤◌, Bool, true, false, ltb, refl, sym, ap, ◌∙◌, arith, lt-ltb, ltb-true, inl, inr, ◌⊎◌}
+use Rattle.pieces.specs.declared.changed.Key.{Key}
+use Rattle.pieces.specs.Changes as changes
+use Rattle.pieces.specs.Changes.{is_before}
+use Rattle.pieces.specs.Counts.{number_of}
+use Rattle.pieces.proofs.Nearest.{Before, NotBefore, before, not_before}
+use Rattle.served.specs.Blocks.{key_of, volume_of, block_of}
+use Rattle.keeping.specs.Keeping.{key_at}
+
+pub volume_key : (v b : ℕ) → b < 137438953472 → volume_of (key_of v b) ≡ v
+volume_key v b l = omega arith
+
+pub block_key : (v b : ℕ) → b < 137438953472 → block_of (key_of v b) ≡ b
+block_key v b l = omega arith
+
+pub key_parts : (k : ℕ) → key_of (volume_of k) (block_of k) ≡ k
+key_parts k = omega arith
+
+pub block_small : (k : ℕ) → block_of k < 137438953472
+block_small k = omega arith
+
+pub not_below : (a b : ℕ) → b ≤ a → ltb a b ≡ false
+not_below a b l = go (ltb a b) refl
+  where
+    go : (t : Bool) → ltb a b ≡ t → ltb a b ≡ false
+    go true e = absurd (omega (arith, l, ltb-true a b e))
+    go false e = e
+
+pub before_number : (a b : Key) → a.block.0 < 137438953472 → b.block.0 ≤ 137438953472 → is_before a b ≡ ltb (number_of a) (number_of b)
+before_number a b l m = go (is_before a b) refl
+  where
+    below : Before a b → number_of a < number_of b
+    below (inl h) = omega (arith, h, l, m)
+    below (inr h) = omega (arith, h.0, h.1)
+
+    above : NotBefore a b → number_of b ≤ number_of a
+    above (inl h) = omega (arith, h, l, m)
+    above (inr h) = omega (arith, h.0, h.1)
+
+    go : (t : Bool) → is_before a b ≡ t → is_before a b ≡ ltb (number_of a) (number_of b)
+    go true e = e ∙ sym (lt-ltb (number_of a) (number_of b) (below (before a b e)))
+    go false e = e ∙ sym (not_below (number_of a) (number_of b) (above (not_before a b e)))
