@@ -12,7 +12,7 @@ use Rattle.pieces.specs.Tables.{slot_in, SlotPut}
 use Rattle.pieces.specs.Agreements.{as_word, Agrees, IsSingle}
 use Rattle.pieces.proofs.Bytes.{both_true}
 use Rattle.pieces.proofs.Counting.{none_of, none_counted, none_from_zero, position-set_same, position-set_new, position-set_gone}
-use Rattle.pieces.proofs.Forgetting.{no_block}
+use Rattle.pieces.proofs.Looking.{no_block}
 use Rattle.pieces.proofs.Blank.{nothing}
 use Rattle.std.proofs.lemmas.List.{get_or_default}
 

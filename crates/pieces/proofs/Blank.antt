@@ -10,8 +10,7 @@ use Rattle.pieces.specs.Layouts.{places_of, entries_of}
 use Rattle.pieces.specs.Kept.{blank_kept}
 use Rattle.pieces.specs.Meaning.{uses_in, held_in, one, look_in, Sound, content, BlankMeans}
 use Rattle.pieces.proofs.Counting.{no_use, no_held}
-use Rattle.pieces.proofs.Looking.{zeros_at, place_looked}
-use Rattle.pieces.proofs.Forgetting.{no_block}
+use Rattle.pieces.proofs.Looking.{zeros_at, place_looked, no_block}
 
 -- the default, so many times
 pub defaults : {X : Type 0} (n : ℕ) (d : X) (i : ℕ) → get_or (replicate n d) i d ≡ d

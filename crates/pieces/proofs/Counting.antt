@@ -87,6 +87,19 @@ module _ {X : Type 0} where
   get_or-set_default (x ∷ xs) zero d = refl
   get_or-set_default (x ∷ xs) (suc i) d = get_or-set_default xs i d
 
+-- two lists whose elements pass alike
+pub position_alike : {X : Type 0} (f : X → Bool) (xs ys : List X) (d : X) → length xs ≡ length ys → ((j : ℕ) → f (get_or xs j d) ≡ f (get_or ys j d)) → position_or_len f xs ≡ position_or_len f ys
+position_alike f [] [] d l h = refl
+position_alike f [] (y ∷ ys) d l h = absurd (omega arith)
+position_alike f (x ∷ xs) [] d l h = absurd (omega arith)
+position_alike f (x ∷ xs) (y ∷ ys) d l h = rw (h 0, position_alike f xs ys d (omega arith) (λ j. h (suc j))) refl
+
+pub sum_fewer : {X : Type 0} (g : X → ℕ) (xs ys : List X) (d : X) → length xs ≡ length ys → ((j : ℕ) → g (get_or xs j d) ≤ g (get_or ys j d)) → sum_by g xs ≤ sum_by g ys
+sum_fewer g [] [] d l h = omega arith
+sum_fewer g [] (y ∷ ys) d l h = absurd (omega arith)
+sum_fewer g (x ∷ xs) [] d l h = absurd (omega arith)
+sum_fewer g (x ∷ xs) (y ∷ ys) d l h = omega (arith, sum_by-cons g x xs, sum_by-cons g y ys, h 0, sum_fewer g xs ys d (omega arith) (λ j. h (suc j)))
+
 -- zeros are no use of a place
 pub no_use : (p : ℕ) (qs : List ℕ) → list_all (λ q. q == 0) qs ≡ true → sum_by (use_of (suc p)) qs ≡ 0
 no_use p [] h = refl

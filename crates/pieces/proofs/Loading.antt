@@ -11,11 +11,10 @@ use Rattle.pieces.specs.Kept.{Kept, blank_kept, index_of, entry_at, raised}
 use Rattle.pieces.specs.Loads.{take_new, taking, take_all, restored, restores_of, restores, load_entry, then_load, load_entries}
 use Rattle.pieces.specs.Meaning.{use_of, uses_in, uses, full, held_in, one, is_taken, look, look_in, Sound, content, living, OnDevice, Loaded}
 use Rattle.pieces.proofs.Bytes.{both_true}
-use Rattle.pieces.proofs.Counting.{use_same, use_other, full_none, full_some, one-le, no_use, no_held, none_from_zero, none_counted}
+use Rattle.pieces.proofs.Counting.{use_same, use_other, full_none, full_some, one-le, no_use, no_held, none_from_zero, none_counted, position_alike, sum_fewer}
 use Rattle.pieces.proofs.Soundness.{used_taken, taken_in}
-use Rattle.pieces.proofs.Looking.{zeros_at, place_looked, stamp_looked, look_in_none}
+use Rattle.pieces.proofs.Looking.{zeros_at, place_looked, stamp_looked, look_in_none, no_block}
 use Rattle.pieces.proofs.Putting.{its_own}
-use Rattle.pieces.proofs.Forgetting.{position_alike, sum_fewer, no_block}
 use Rattle.pieces.proofs.Blank.{blank_sound, defaults}
 
 clash : {A : Type 0} → false ≡ true → A

@@ -3,7 +3,7 @@ use Rattle.std.proofs.Common.{◌≡◌, ℕ, zero, suc, ◌/◌, ◌%◌, ◌<�
 use Rattle.std.specs.List.{position, count_by, list_all}
 use Rattle.std.proofs.lemmas.List.{get_or-set_same, get_or-set_other}
 use Rattle.std.proofs.lemmas.List.Quantifiers.{position-Some}
-use Rattle.std.proofs.lemmas.Bool.{eqb-true, eq-eqb}
+use Rattle.std.proofs.lemmas.Bool.{eqb-true, eq-eqb, ne_eqb, and_left}
 use Rattle.pieces.specs.declared.entry.Entry.{Entry}
 use Rattle.pieces.specs.Entries.{is_block, is_free, is_empty, free_entry, marker}
 use Rattle.pieces.specs.Kept.{Kept, index_of, place_in, place_of, stamp_in, stamp_of, or_else, vacant}
@@ -80,3 +80,10 @@ same_block v b u c w e = let f = both_true (u == v) (c == b) e in (eqb-true u v 
 
 pub look_in_none : (v b : ℕ) (es : List Entry) → index_of v b es ≡ None → look v b es ≡ free_entry
 look_in_none v b es e = ap (λ (o : Option ℕ). look_in o es) e
+
+-- no volume has the number 0
+pub no_volume : (u : ℕ) → (0 == suc u) ≡ false
+no_volume u = ne_eqb 0 (suc u) (λ (z : ◌≡◌ {A = ℕ} 0 (suc u)). absurd (omega arith))
+
+pub no_block : (u b : ℕ) → is_block (suc u) b free_entry ≡ false
+no_block u b = and_left (0 == suc u) (0 == b) (no_volume u)

@@ -1,15 +1,17 @@
 -- What is kept with what the places hold: a range of blocks that another copy's take the place of, and entries that are given up by a test.
 -- Assumes nothing.
-use Rattle.std.specs.Prelude.{ℕ, zero, suc, ◌+◌, ◌*◌, Bool, true, false, cond, not, ◌&&◌, List, [], ◌∷◌, length, ◌==◌, nat_lt, Some, None, Option}
+use Rattle.std.specs.Prelude.{◌≡◌, ℕ, zero, suc, ◌+◌, ◌*◌, ◌/◌, ◌<◌, ◌≤◌, Bool, true, false, cond, not, ◌&&◌, List, [], ◌∷◌, length, ◌==◌, nat_lt, Some, None, Option}
 use Rattle.std.specs.List.{count_by}
 use Rattle.std.specs.Option.{option_map}
+use Rattle.disks.specs.Device.{zeros}
 use Rattle.disks.specs.Disks.{all_zero}
 use Rattle.volumes.specs.declared.head.Head.{Head}
 use Rattle.volumes.specs.Service.{is_living}
 use Rattle.pieces.specs.declared.entry.Entry.{Entry}
 use Rattle.pieces.specs.declared.changed.Key.{Key}
+use Rattle.pieces.specs.Entries.{free_entry}
 use Rattle.pieces.specs.Kept.{Kept, WasSet, entry_at, raised, sets, vacated}
-use Rattle.pieces.specs.Meaning.{stored_at}
+use Rattle.pieces.specs.Meaning.{Sound, look, shown, age_of, held, stored_at}
 use Rattle.pieces.specs.Ranges.{is_within}
 
 -- what is kept, with what the places of data hold
@@ -76,3 +78,33 @@ is_gone next hs e = not (e.volume.0 == 0) && not (is_living next hs e.volume.0)
 
 abbrev pub tidied : (next : ℕ) → List Head → Kept → Kept
 tidied next hs k = vacates_where (is_gone next hs) (length k.entries) k
+
+-- WHAT GIVING UP MEANS: these entries are free, and all others as they were; their blocks are zeros, and all others hold what they held.
+pub record Vacates (size : ℕ) (f : Entry → Bool) (k m : Kept) : Type 0 where
+  pub sound : Sound size m
+  pub free : (j : ℕ) → f (entry_at j k) ≡ true → entry_at j m ≡ free_entry
+  pub same : (j : ℕ) → f (entry_at j k) ≡ false → entry_at j m ≡ entry_at j k
+  pub gone : (d : ℕ → List ℕ) (v n : ℕ) → f (look (suc v) (n / 8) k.entries) ≡ true → shown d m (suc v) n ≡ zeros 512
+  pub others : (d : ℕ → List ℕ) (v n : ℕ) → f (look (suc v) (n / 8) k.entries) ≡ false → shown d m (suc v) n ≡ shown d k (suc v) n
+  pub looked : (v b : ℕ) → f (look (suc v) b k.entries) ≡ false → look (suc v) b m.entries ≡ look (suc v) b k.entries
+  pub aged : (v b : ℕ) → f (look (suc v) b k.entries) ≡ false → age_of (suc v) b m ≡ age_of (suc v) b k
+  pub fewer : held m.entries ≤ held k.entries
+  pub floor : m.floor ≡ k.floor
+
+abbrev pub VacateMeans : Type 0
+VacateMeans = (size : ℕ) (f : Entry → Bool) (k : Kept) → Sound size k → Vacates size f k (vacates_where f (length k.entries) k)
+
+-- and when all volumes are given up that aren't living, none of their entries is left
+pub record Tidies (size next : ℕ) (hs : List Head) (k m : Kept) : Type 0 where
+  pub sound : Sound size m
+  pub free : (j : ℕ) → is_gone next hs (entry_at j k) ≡ true → entry_at j m ≡ free_entry
+  pub same : (j : ℕ) → is_gone next hs (entry_at j k) ≡ false → entry_at j m ≡ entry_at j k
+  pub living : (j : ℕ) → is_gone next hs (entry_at j m) ≡ false
+  pub gone : (d : ℕ → List ℕ) (v n : ℕ) → is_living next hs (suc v) ≡ false → shown d m (suc v) n ≡ zeros 512
+  pub others : (d : ℕ → List ℕ) (v n : ℕ) → is_living next hs (suc v) ≡ true → shown d m (suc v) n ≡ shown d k (suc v) n
+  pub aged : (v b : ℕ) → is_living next hs (suc v) ≡ true → age_of (suc v) b m ≡ age_of (suc v) b k
+  pub fewer : held m.entries ≤ held k.entries
+  pub floor : m.floor ≡ k.floor
+
+abbrev pub TidyMeans : Type 0
+TidyMeans = (size next : ℕ) (hs : List Head) (k : Kept) → Sound size k → Tidies size next hs k (tidied next hs k)

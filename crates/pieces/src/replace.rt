@@ -1,13 +1,11 @@
 // What becomes of a range of blocks when another copy's take their place: those that aren't in it are given up one by one, the others are set
 // sector by sector, and the floor rises to the other copy's. So each step says what is to be written for it.
-ghost use Rattle.std.specs.Prelude.{◌≡◌, position};
-ghost use Rattle.pieces.specs.Kept.{the_kept};
+ghost use Rattle.std.specs.Prelude.{◌≡◌};
 ghost use Rattle.pieces.specs.Changes.{is_below};
-ghost use Rattle.pieces.specs.Ranges.{is_within, DropsFirst, DropMeans};
+ghost use Rattle.pieces.specs.Ranges.{is_within};
 
 use crate::changed::Key;
 use crate::entry::Entry;
-use crate::state::Pieces;
 
 impl Entry {
     // Whether it is in use, and its block in the range from a key up to another, or to the end.
@@ -27,25 +25,5 @@ impl Key {
             Some(end) => self.is_before(end),
             None => true,
         }
-    }
-}
-
-fn first_within(entries: &[Entry], from: Key, next: Option<Key>) -> Option<usize>
-    ensures { result ≡ position (is_within from next) entries.now }
-{
-    entries.iter().position(|entry| entry.is_within(from, next))
-}
-
-impl Pieces {
-    #[tactic(auto, using(crate::proofs::Dropping::drop_means, crate::proofs::Places::first_in))]
-    // Gives up one block of a range, and says which entry is to be written; None if there are no more.
-    pub fn drop_first(&mut self, from: Key, next: Option<Key>) -> Option<usize>
-        ensures kept { DropsFirst from next (the_kept self.old) result (the_kept self.new) }
-        ensures means { DropMeans }
-        ensures layout { self.new.layout ≡ self.old.layout }
-    {
-        let index = first_within(self.entries.as_slice(), from, next)?;
-        self.vacate(index);
-        Some(index)
     }
 }
