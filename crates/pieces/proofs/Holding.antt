@@ -10,9 +10,8 @@ use Rattle.pieces.specs.Entries.{is_block, free_entry}
 use Rattle.pieces.specs.Kept.{index_of}
 use Rattle.pieces.specs.Meaning.{look_in, look, held_in, held, one}
 use Rattle.pieces.proofs.Counting.{none_of, none_counted, none_from_zero, found_at, no_held}
-use Rattle.pieces.proofs.Looking.{look_in_none, look_same, look_here}
+use Rattle.pieces.proofs.Looking.{look_in_none, look_same, look_here, no_block}
 use Rattle.pieces.proofs.Putting.{its_own, one_block}
-use Rattle.pieces.proofs.Forgetting.{no_block}
 
 -- a block has one entry
 abbrev pub Single : List Entry → Type 0

@@ -10,7 +10,8 @@ use Rattle.pieces.specs.Meaning.{Sound, content, shown}
 use Rattle.pieces.specs.Counts.{Clean, IsHeld, Within, NoBlanks, Thinned, ThinnedStaysClean}
 use Rattle.pieces.proofs.Counting.{only_first}
 use Rattle.pieces.proofs.Putting.{its_own}
-use Rattle.pieces.proofs.Forgetting.{no_block, vacate}
+use Rattle.pieces.proofs.Looking.{no_block}
+use Rattle.pieces.proofs.Vacating.{vacate}
 
 clash : {A : Type 0} → false ≡ true → A
 clash e = let z : ◌≡◌ {A = ℕ} 0 1 = cc in absurd (omega arith)

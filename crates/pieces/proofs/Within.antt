@@ -9,7 +9,7 @@ use Rattle.pieces.specs.Meaning.{full, look_in, look, held_in, held, Sound}
 use Rattle.pieces.specs.Counts.{Clean, IsHeld, Within, HeldWithin}
 use Rattle.pieces.proofs.Counting.{full_none, full_some}
 use Rattle.pieces.proofs.Looking.{place_looked}
-use Rattle.pieces.proofs.Forgetting.{sum_fewer, sum_one_less}
+use Rattle.pieces.proofs.Counting.{sum_fewer, sum_one_less}
 use Rattle.pieces.proofs.Holding.{Idle, free_holds, holds_no_more, holds_less}
 
 -- a block's entry has eight places
