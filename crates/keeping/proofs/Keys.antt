@@ -1,5 +1,8 @@
 -- Keys as numbers: a number below 2^37 of blocks for each volume, in the same order.
-use Rattle.std.proofs.Common.{◌≡◌, ℕ, zero, suc, ◌+◌, ◌*◌, ◌/◌, ◌%◌, ◌<◌, ◌≤◌, Bool, true, false, ltb, refl, sym, ap, ◌∙◌, arith, lt-ltb, ltb-true, inl, inr, ◌⊎◌}
+use Rattle.std.proofs.Common.{◌≡◌, ℕ, zero, suc, ◌+◌, ◌*◌, ◌/◌, ◌%◌, ◌<◌, ◌≤◌, Bool, true, false, ltb, not, refl, sym, ap, ◌∙◌, arith, lt-ltb, ltb-true, inl, inr, ◌⊎◌}
+use Rattle.std.proofs.lemmas.Bool.{true≢false}
+use Rattle.volumes.specs.Service.{Service, is_living}
+use Rattle.served.specs.Room.{is_gone}
 use Rattle.pieces.specs.declared.changed.Key.{Key}
 use Rattle.pieces.specs.Changes as changes
 use Rattle.pieces.specs.Changes.{is_before}
@@ -41,3 +44,16 @@ before_number a b l m = go (is_before a b) refl
     go : (t : Bool) → is_before a b ≡ t → is_before a b ≡ ltb (number_of a) (number_of b)
     go true e = e ∙ sym (lt-ltb (number_of a) (number_of b) (below (before a b e)))
     go false e = e ∙ sym (not_below (number_of a) (number_of b) (above (not_before a b e)))
+
+pub iff_same : (a b : Bool) → (a ≡ true → b ≡ true) → (b ≡ true → a ≡ true) → a ≡ b
+iff_same true b f g = sym (f refl)
+iff_same false true f g = g refl
+iff_same false false f g = refl
+
+-- the key of a block that isn't gone has a volume
+pub has_volume : (r : Service) (k : ℕ) → is_gone r k ≡ false → (u : ℕ) × (volume_of k ≡ suc u)
+has_volume r k e = go (volume_of k) refl e
+  where
+    go : (v : ℕ) → volume_of k ≡ v → not (is_living r.next r.heads v) ≡ false → (u : ℕ) × (volume_of k ≡ suc u)
+    go zero q f = absurd (true≢false f)
+    go (suc u) q f = (u, q)

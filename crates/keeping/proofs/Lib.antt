@@ -1,1 +1,3 @@
 pub mod Keys
+pub mod Listed
+pub mod Portions
