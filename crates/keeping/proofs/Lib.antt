@@ -1,3 +1,5 @@
 pub mod Keys
 pub mod Listed
 pub mod Portions
+pub mod Sets
+pub mod Moves

@@ -52,13 +52,14 @@ abbrev pub or_held : Option Held → Held → Held
 or_held None h = h
 or_held (Some m) h = m
 
--- A sector is written if it is not what it is to be, zeros in one pass and all others in another.
+-- is the sector one of this pass: of the one for zeros, or of the one for all others?
+abbrev pub is_of_pass : (blank : Bool) → List ℕ → Bool
+is_of_pass true bs = all_zero bs
+is_of_pass false bs = not (all_zero bs)
+
+-- A sector is written if it is not what it is to be.
 unfoldable pub writes_sector : (blank : Bool) → (version volume sector : ℕ) → List ℕ → Held → Held
-writes_sector z w v n bs h = cond (eqb_bool z (all_zero bs) && not (bytes_eq (shown h.data' h.kept v n) bs)) (or_held (sets_held v n bs w h) h) h
-  where
-    eqb_bool : Bool → Bool → Bool
-    eqb_bool true b = b
-    eqb_bool false b = not b
+writes_sector z w v n bs h = cond (is_of_pass z bs && not (bytes_eq (shown h.data' h.kept v n) bs)) (or_held (sets_held v n bs w h) h) h
 
 unfoldable pub writes_slots : (blank : Bool) → (version volume block slot : ℕ) → Block → Held → Held
 writes_slots z w v b s [] h = h
