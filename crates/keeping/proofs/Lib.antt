@@ -3,3 +3,4 @@ pub mod Listed
 pub mod Portions
 pub mod Sets
 pub mod Moves
+pub mod Writing
