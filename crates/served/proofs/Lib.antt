@@ -1,0 +1,12 @@
+mod Seeing
+mod Decoding
+mod Steps
+mod Living
+mod Heads
+mod Writing
+mod Rooms
+mod Lawful
+mod Totals
+mod Bounds
+mod Sectors
+mod OnePlace

@@ -1,3 +1,4 @@
 pub mod Blocks
-pub mod Served
 pub mod Room
+pub mod Served
+pub mod OnePlace

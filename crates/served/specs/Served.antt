@@ -1,14 +1,14 @@
 -- The volumes as a service that is replicated: calls and answers are bytes, the heads are the rest, what volumes hold the blocks.
 -- Assumes nothing.
-use Rattle.std.specs.Prelude.{ℕ, Bool, cond, not, List, [], ◌∷◌, bytes_eq}
+use Rattle.std.specs.Prelude.{◌≡◌, ◌≢◌, ℕ, cond, List, [], ◌∷◌, bytes_eq}
 use Rattle.disks.specs.Disks.{No}
 use Rattle.wire.specs.Kinds.{is_built}
 use Rattle.wire.specs.Calls.{Decoded, is_call, is_refused, decoded}
 use Rattle.wire.specs.Answers.{answer_bytes}
-use Rattle.volumes.specs.Service.{Service, blank_service, is_living, Changed, keeps, puts, forgets, Served, says, serves}
+use Rattle.volumes.specs.Service.{Service, blank_service, Changed, keeps, puts, forgets, Served, says, serves}
 use Rattle.volumes.specs.Simulation.{read_at, needed}
-use Rattle.copies.specs.Service.{Change, Service as Replicated}
-use Rattle.served.specs.Blocks.{Block, empty_block, volume_of, key_at, sector_in, with_sector}
+use Rattle.copies.specs.Service.{Change, Service as Replicated, Lawful}
+use Rattle.served.specs.Blocks.{Block, empty_block, key_at, sector_in, with_sector}
 use Rattle.served.specs.Room.{is_gone, HasRoom}
 
 -- the blocks that may be asked for; what is gone reads as empty
@@ -61,3 +61,10 @@ volume_service room =
       says = told;
       busy = busy_bytes;
     }
+
+abbrev pub IsLawful : Type 0
+IsLawful = (room : ℕ) → Lawful (volume_service room)
+
+-- customers are told each reply as it is
+abbrev pub NeverBusy : Type 0
+NeverBusy = (room : ℕ) (o : List ℕ) (r : Service) (f : ℕ → Block) → (reply_to room o r f ≢ busy_bytes) × (told (reply_to room o r f) ≡ reply_to room o r f)
