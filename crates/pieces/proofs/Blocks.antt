@@ -1,15 +1,14 @@
 -- What is held is held by the blocks of entries in use, each of which has its own entry.
-use Rattle.std.proofs.Common.{◌≡◌, ◌≢◌, ℕ, zero, suc, ◌+◌, ◌<◌, ◌≤◌, Bool, true, false, cond, ◌==◌, List, [], ◌∷◌, length, get_or, refl, sym, ap, ◌∙◌, arith}
-use Rattle.std.specs.List.{sum_by, count_by}
+use Rattle.std.proofs.Common.{◌≡◌, ◌≢◌, ℕ, zero, suc, ◌<◌, Bool, true, false, cond, ◌==◌, List, [], ◌∷◌, length, get_or, refl, sym, ap, ◌∙◌, arith}
+use Rattle.std.specs.List.{sum_by}
 use Rattle.std.proofs.lemmas.List.Sums.{sum_by-cons, get_or-le-sum_by}
 use Rattle.std.proofs.lemmas.Bool.{eqb-true, eqb-false}
 use Rattle.pieces.specs.declared.entry.Entry.{Entry}
 use Rattle.pieces.specs.declared.changed.Key.{Key}
 use Rattle.pieces.specs.Entries.{is_block, free_entry}
-use Rattle.pieces.specs.Kept.{Kept, entry_at}
-use Rattle.pieces.specs.Changes.{key_of, entry_key}
-use Rattle.pieces.specs.Meaning.{look, held_in, held, one, Sound}
-use Rattle.pieces.specs.Counts.{Clean, keys_in, no_key, Distinct, AllInUse, held_of, HeldByBlocks}
+use Rattle.pieces.specs.Changes.{entry_key}
+use Rattle.pieces.specs.Meaning.{look, held_in, held, one}
+use Rattle.pieces.specs.Counts.{keys_in, no_key, Distinct, HeldByBlocks}
 use Rattle.pieces.proofs.Holding.{Single, Idle, own_block, count_head, single_tail, look_head, look_tail}
 use Rattle.pieces.proofs.Within.{idle}
 
@@ -71,7 +70,7 @@ keys_apart (e ∷ es) single = go (e.volume.0 == 0) (keys_apart es (single_tail 
 abbrev holding : List Entry → Key → ℕ
 holding es b = held_in (look b.volume.0 b.block.0 es)
 
-all_held : (es : List Entry) → Single es → Idle es → held es ≡ sum_by (holding es) (keys_in es)
+all_held : (es : List Entry) → Single es → Idle held_in es → held es ≡ sum_by (holding es) (keys_in es)
 all_held [] single idle = refl
 all_held (e ∷ es) single idle = go (e.volume.0 == 0) refl (all_held es (single_tail e es single) (λ i. idle (suc i)))
   where

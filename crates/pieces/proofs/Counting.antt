@@ -112,9 +112,3 @@ no_held [] h = refl
 no_held (q ∷ qs) h =
     let f = both_true (q == 0) (list_all (λ r. r == 0) qs) h in
     omega (arith, sum_by-cons full q qs, full_none q (eqb-true q 0 f.0), no_held qs f.1)
-
-pub sum_one_less : {X : Type 0} (g : X → ℕ) (xs ys : List X) (d : X) (i : ℕ) → length xs ≡ length ys → i < length ys → ((j : ℕ) → g (get_or xs j d) ≤ g (get_or ys j d)) → g (get_or xs i d) < g (get_or ys i d) → sum_by g xs < sum_by g ys
-sum_one_less g [] ys d i l m h s = absurd (omega arith)
-sum_one_less g (x ∷ xs) [] d i l m h s = absurd (omega arith)
-sum_one_less g (x ∷ xs) (y ∷ ys) d zero l m h s = omega (arith, sum_by-cons g x xs, sum_by-cons g y ys, sum_fewer g xs ys d (omega arith) (λ j. h (suc j)))
-sum_one_less g (x ∷ xs) (y ∷ ys) d (suc i) l m h s = omega (arith, sum_by-cons g x xs, sum_by-cons g y ys, h 0, sum_one_less g xs ys d i (omega arith) (omega arith) (λ j. h (suc j)) s)

@@ -1,10 +1,9 @@
 -- Where another directory holds all that this one does and this sector too, it has room here: it has a place, or fewer are held here than there.
-use Rattle.std.proofs.Common.{◌≡◌, ◌≢◌, ℕ, zero, suc, ◌/◌, ◌%◌, ◌<◌, ◌≤◌, Bool, true, false, cond, ◌==◌, List, length, Some, None, Option, refl, sym, ap, ◌∙◌, arith}
+use Rattle.std.proofs.Common.{◌≡◌, ℕ, zero, suc, ◌/◌, ◌%◌, Bool, false, cond, Some, None, Option, refl, ap, ◌∙◌, arith}
 use Rattle.std.proofs.lemmas.List.Sums.{count_by-le-length}
 use Rattle.std.proofs.lemmas.Bool.{ne_eqb}
-use Rattle.pieces.specs.Layouts.{places_of}
-use Rattle.pieces.specs.Kept.{Kept, Claim, claimed, WasSet, was_set, index_of, place_of, found, or_else, free_place, place_for, claims, claims_of, is_risen, puts_place, sets_bytes, sets}
-use Rattle.pieces.specs.Meaning.{held, Sound}
+use Rattle.pieces.specs.Kept.{Kept, WasSet, was_set, index_of, place_of, or_else, free_place, place_for, claims, claims_of, is_risen, puts_place, sets_bytes, sets}
+use Rattle.pieces.specs.Meaning.{Sound}
 use Rattle.pieces.specs.Counts.{Clean, IsHeld, Within, HeldFits, FitsWithin}
 use Rattle.pieces.proofs.Always.{always_room}
 use Rattle.pieces.proofs.SetMeaning.{set_means}
@@ -20,10 +19,11 @@ own_place : (v n w : ℕ) (k : Kept) → IsHeld v n k → (r : WasSet) × (sets 
 unfolding sets claims
 own_place v n w k h =
     let at = held_at v n k h in
-    let place : place_for v n k ≡ Some (place_of v n k) = ap (λ (t : Bool). or_else (cond t None (Some (place_of v n k))) (free_place k.taken)) (ne_eqb (place_of v n k) 0 h) in
-    (was_set (record { place = Some (place_of v n k); entry = Some at.0; floor = is_risen k k }) (puts_place at.0 (n % 8) (place_of v n k) w k),
-        ap (λ (o : Option ℕ). sets_bytes (n % 8) w o (claims_of v (n / 8) w (index_of v (n / 8) k.entries) k) k) place
-        ∙ ap (λ (o : Option ℕ). sets_bytes (n % 8) w (Some (place_of v n k)) (claims_of v (n / 8) w o k) k) at.1)
+    let place : place_for v n k ≡ Some (place_of v n k) = ap (λ (t : Bool). or_else (cond t None (Some (place_of v n k))) (free_place k.taken)) (ne_eqb (place_of v n k) 0 h) in (
+      was_set (record { place = Some (place_of v n k); entry = Some at.0; floor = is_risen k k }) (puts_place at.0 (n % 8) (place_of v n k) w k),
+      ap (λ (o : Option ℕ). sets_bytes (n % 8) w o (claims_of v (n / 8) w (index_of v (n / 8) k.entries) k) k) place
+          ∙ ap (λ (o : Option ℕ). sets_bytes (n % 8) w (Some (place_of v n k)) (claims_of v (n / 8) w o k) k) at.1,
+    )
 
 fits : (size v n w : ℕ) (s t : Kept) → Sound size s → Sound size t → Clean t → Within s t → IsHeld (suc v) n s → (r : WasSet) × (sets (suc v) n false w t ≡ Some r)
 fits size v n w s t x y c h here = go (place_of (suc v) n t) refl

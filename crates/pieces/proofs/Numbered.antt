@@ -1,16 +1,16 @@
 -- Blocks by their numbers. Numbers of distinct blocks are distinct, so a bound on sums over distinct numbers bounds what is held.
-use Rattle.std.proofs.Common.{◌≡◌, ◌≢◌, ℕ, zero, suc, ◌+◌, ◌*◌, ◌<◌, ◌≤◌, Bool, false, not, List, [], ◌∷◌, map, length, get_or, eqb, refl, sym, ap, ◌∙◌, subst, arith}
+use Rattle.std.proofs.Common.{◌≡◌, ◌≢◌, ℕ, suc, ◌<◌, ◌≤◌, false, List, [], ◌∷◌, map, length, get_or, eqb, refl, sym, ap, ◌∙◌, subst, arith}
 use Rattle.std.specs.List.{sum_by, All, IsDistinct}
 use Rattle.std.proofs.lemmas.List.{get_or-map, length-map}
 use Rattle.std.proofs.lemmas.List.Sums.{sum_by-cons}
 use Rattle.std.proofs.lemmas.List.Elements.{recursion_from_All}
 use Rattle.std.proofs.lemmas.Bool.{ne_eqb}
-use Rattle.disks.specs.Disks.{all_zero, used, one}
+use Rattle.disks.specs.Disks.{used}
 use Rattle.pieces.specs.declared.changed.Key.{Key}
 use Rattle.pieces.specs.Kept.{Kept, entry_at}
 use Rattle.pieces.specs.Changes.{key_of, entry_key}
 use Rattle.pieces.specs.Meaning.{held, Sound}
-use Rattle.pieces.specs.Counts.{Clean, no_key, keys_in, Distinct, AllInUse, used_of, NoBlanks, number_of, InUse, filled, block_shown, HeldByNumbers}
+use Rattle.pieces.specs.Counts.{Clean, no_key, Distinct, AllInUse, used_of, NoBlanks, number_of, InUse, filled, block_shown, HeldByNumbers}
 use Rattle.pieces.proofs.Used.{held_used}
 
 -- blocks of a volume have numbers below the next volume's

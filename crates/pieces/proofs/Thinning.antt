@@ -1,12 +1,12 @@
 -- Entries that are given up leave no blanks, and what is held afterwards was held: the entry of a block that has one was its entry before.
-use Rattle.std.proofs.Common.{◌≡◌, ◌≢◌, ◌⊎◌, inl, inr, ℕ, zero, suc, ◌/◌, ◌%◌, ◌<◌, ◌≤◌, true, false, List, length, get_or, Some, None, Option, refl, sym, ap, ◌∙◌, arith}
+use Rattle.std.proofs.Common.{◌≡◌, ◌≢◌, ◌⊎◌, inl, inr, ℕ, suc, ◌/◌, ◌%◌, ◌<◌, ◌≤◌, true, false, List, length, get_or, Some, None, Option, refl, sym, ap, ◌∙◌, arith}
 use Rattle.std.proofs.lemmas.List.{get_or_past}
 use Rattle.std.proofs.lemmas.Bool.{cases_eq, cases_lt}
 use Rattle.disks.specs.Disks.{all_zero}
 use Rattle.pieces.specs.declared.entry.Entry.{Entry}
 use Rattle.pieces.specs.Entries.{is_block, free_entry}
 use Rattle.pieces.specs.Kept.{Kept, index_of, entry_at, place_at, place_in, place_of, vacated}
-use Rattle.pieces.specs.Meaning.{Sound, content, shown}
+use Rattle.pieces.specs.Meaning.{Sound, content}
 use Rattle.pieces.specs.Counts.{Clean, IsHeld, Within, NoBlanks, Thinned, ThinnedStaysClean}
 use Rattle.pieces.proofs.Counting.{only_first}
 use Rattle.pieces.proofs.Putting.{its_own}
@@ -25,7 +25,7 @@ held_at v n k h = go (index_of v (n / 8) k.entries) refl h
     go (Some i) e o = (i, e, refl)
 
 -- a block's entry is one of the list
-block_inside : (v b i : ℕ) (es : List Entry) → is_block (suc v) b (get_or es i free_entry) ≡ true → i < length es
+pub block_inside : (v b i : ℕ) (es : List Entry) → is_block (suc v) b (get_or es i free_entry) ≡ true → i < length es
 block_inside v b i es t = go (cases_lt i (length es))
   where
     go : (i < length es) ⊎ (length es ≤ i) → i < length es

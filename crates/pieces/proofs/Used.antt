@@ -7,11 +7,10 @@ use Rattle.std.proofs.lemmas.Bool.{cases_eq}
 use Rattle.disks.specs.Disks.{all_zero, used, one}
 use Rattle.volumes.proofs.Counts.{all_zeros}
 use Rattle.pieces.specs.declared.changed.Key.{Key}
-use Rattle.pieces.specs.Entries.{free_entry}
 use Rattle.pieces.specs.Kept.{Kept, place_of}
 use Rattle.pieces.specs.Changes.{key_of}
-use Rattle.pieces.specs.Meaning.{full, look, held_in, held, Sound, content, shown}
-use Rattle.pieces.specs.Counts.{Clean, keys_in, no_key, Distinct, AllInUse, held_of, used_of, NoBlanks, HeldUsed}
+use Rattle.pieces.specs.Meaning.{full, look, held, Sound, content, shown}
+use Rattle.pieces.specs.Counts.{Clean, no_key, Distinct, AllInUse, held_of, used_of, NoBlanks, HeldUsed}
 use Rattle.pieces.proofs.Counting.{full_none, full_some}
 use Rattle.pieces.proofs.Within.{eight_looked, slot_looked}
 use Rattle.pieces.proofs.Blocks.{sum_alike, held_by_blocks}

@@ -1,16 +1,15 @@
 -- Of two directories where one holds no sector that the other doesn't: block by block its entries hold no more.
-use Rattle.std.proofs.Common.{◌≡◌, ◌≢◌, ◌⊎◌, inl, inr, ℕ, zero, suc, ◌+◌, ◌*◌, ◌/◌, ◌%◌, ◌<◌, ◌≤◌, Some, None, Option, List, length, get_or, refl, sym, ap, ◌∙◌, arith}
+use Rattle.std.proofs.Common.{◌≡◌, ◌≢◌, ◌⊎◌, inl, inr, ℕ, zero, suc, ◌+◌, ◌*◌, ◌/◌, ◌%◌, ◌<◌, ◌≤◌, Some, None, Option, List, [], ◌∷◌, length, get_or, refl, sym, ap, ◌∙◌, arith}
+use Rattle.std.specs.List.{sum_by}
 use Rattle.std.proofs.lemmas.List.{get_or_past}
+use Rattle.std.proofs.lemmas.List.Sums.{sum_by-cons}
 use Rattle.std.proofs.lemmas.Bool.{cases_eq, cases_lt}
-use Rattle.pieces.specs.declared.entry.Entry.{Entry}
-use Rattle.pieces.specs.Entries.{free_entry}
-use Rattle.pieces.specs.Kept.{Kept, index_of, entry_at, place_of}
+use Rattle.pieces.specs.Kept.{Kept, index_of, place_of}
 use Rattle.pieces.specs.Meaning.{full, look_in, look, held_in, held, Sound}
 use Rattle.pieces.specs.Counts.{Clean, IsHeld, Within, HeldWithin}
-use Rattle.pieces.proofs.Counting.{full_none, full_some}
+use Rattle.pieces.proofs.Counting.{full_none, full_some, sum_fewer}
 use Rattle.pieces.proofs.Looking.{place_looked}
-use Rattle.pieces.proofs.Counting.{sum_fewer, sum_one_less}
-use Rattle.pieces.proofs.Holding.{Idle, free_holds, holds_no_more, holds_less}
+use Rattle.pieces.proofs.Holding.{Idle, free_holds, weighs_no_more, holds_less}
 
 -- a block's entry has eight places
 pub eight_looked : (size v b : ℕ) (k : Kept) → Sound size k → length (look v b k.entries).places ≡ 8
@@ -27,8 +26,14 @@ slot_looked v b s k l =
     let es : (8 * b + s) % 8 ≡ s = omega arith in
     place_looked v (8 * b + s) k ∙ ap (λ (n : ℕ). get_or (look v n k.entries).places ((8 * b + s) % 8) 0) eb ∙ ap (λ (n : ℕ). get_or (look v b k.entries).places n 0) es
 
-pub idle : (k : Kept) → Clean k → Idle k.entries
+pub idle : (k : Kept) → Clean k → Idle held_in k.entries
 idle k c i e = ap held_in (c i e) ∙ free_holds
+
+sum_one_less : {X : Type 0} (g : X → ℕ) (xs ys : List X) (d : X) (i : ℕ) → length xs ≡ length ys → i < length ys → ((j : ℕ) → g (get_or xs j d) ≤ g (get_or ys j d)) → g (get_or xs i d) < g (get_or ys i d) → sum_by g xs < sum_by g ys
+sum_one_less g [] ys d i l m h s = absurd (omega arith)
+sum_one_less g (x ∷ xs) [] d i l m h s = absurd (omega arith)
+sum_one_less g (x ∷ xs) (y ∷ ys) d zero l m h s = omega (arith, sum_by-cons g x xs, sum_by-cons g y ys, sum_fewer g xs ys d (omega arith) (λ j. h (suc j)))
+sum_one_less g (x ∷ xs) (y ∷ ys) d (suc i) l m h s = omega (arith, sum_by-cons g x xs, sum_by-cons g y ys, h 0, sum_one_less g xs ys d i (omega arith) (omega arith) (λ j. h (suc j)) s)
 
 full_le : (p q : ℕ) → (p ≢ 0 → q ≢ 0) → full p ≤ full q
 full_le p q h = go (cases_eq p 0)
@@ -55,7 +60,7 @@ module _ (size v b : ℕ) (s t : Kept) (x : Sound size s) (y : Sound size t) (w 
 
 pub held_within : HeldWithin
 held_within = record {
-  at_most = λ size s t x y c w. holds_no_more t.entries s.entries y.single (idle t c) (λ v b. block_within size v b s t x y w);
+  at_most = λ size s t x y c w. weighs_no_more held_in free_holds t.entries s.entries y.single (idle t c) (λ v b. block_within size v b s t x y w);
   fewer = fewer;
 }
   where

@@ -9,3 +9,4 @@ pub mod Replaces
 pub mod Tables
 pub mod Agreements
 pub mod Counts
+pub mod Fits

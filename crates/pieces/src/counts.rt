@@ -1,4 +1,5 @@
 // What is promised of how many sectors are held.
+ghost use Rattle.pieces.specs.Fits.{FewerInRange, FitsStay};
 ghost use Rattle.pieces.specs.Counts.{HeldWithin, HeldFits, FitsWithin, HeldByBlocks, HeldUsed, HeldByNumbers, SetStaysClean, ThinnedStaysClean};
 
 // A directory that holds no sector that another one doesn't holds no more, so it has room for each that the other holds.
@@ -17,4 +18,11 @@ pub fn held_by_blocks()
     ensures numbers { HeldByNumbers }
     ensures set { SetStaysClean }
     ensures thinned { ThinnedStaysClean }
+{}
+
+// What another directory holds, and no less than this one, is taken over: there is room for it.
+#[tactic(auto, using(crate::proofs::InUse::fewer_in_range, crate::proofs::Filling::fits_stay))]
+pub fn fits_in()
+    ensures range { FewerInRange }
+    ensures stays { FitsStay }
 {}
