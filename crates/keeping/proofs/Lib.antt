@@ -4,3 +4,5 @@ pub mod Portions
 pub mod Sets
 pub mod Moves
 pub mod Writing
+pub mod Due
+pub mod Tidying

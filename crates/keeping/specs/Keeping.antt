@@ -41,7 +41,7 @@ tidied_held r h = record { kept = tidied r.next r.heads h.kept; data' = h.data' 
 
 -- what is to be written: blocks that aren't gone, and of each the last
 abbrev pub is_due : Service → Change Block → List (Change Block) → Bool
-is_due r c later = not (is_gone r c.key) && not (list_any (λ d. d.key == c.key) later) && is_whole c.block
+is_due r c later = not (is_gone r c.key) && (not (list_any (λ d. d.key == c.key) later) && is_whole c.block)
 
 unfoldable pub due : Service → List (Change Block) → List (Change Block)
 due r [] = []
