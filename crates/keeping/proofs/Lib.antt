@@ -6,3 +6,4 @@ pub mod Moves
 pub mod Writing
 pub mod Due
 pub mod Tidying
+pub mod Written

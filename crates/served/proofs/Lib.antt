@@ -7,6 +7,6 @@ mod Writing
 mod Rooms
 mod Lawful
 mod Totals
-mod Bounds
+pub mod Bounds
 mod Sectors
 mod OnePlace
