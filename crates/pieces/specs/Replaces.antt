@@ -1,7 +1,7 @@
 -- What is kept with what the places hold: a range of blocks that another copy's take the place of, and entries that are given up by a test.
 -- Assumes nothing.
-use Rattle.std.specs.Prelude.{◌≡◌, ℕ, zero, suc, ◌+◌, ◌*◌, ◌/◌, ◌<◌, ◌≤◌, Bool, true, false, cond, not, ◌&&◌, List, [], ◌∷◌, length, ◌==◌, nat_lt, Some, None, Option}
-use Rattle.std.specs.List.{count_by}
+use Rattle.std.specs.Prelude.{◌≡◌, ℕ, zero, suc, ◌+◌, ◌*◌, ◌/◌, ◌<◌, ◌≤◌, Bool, true, false, cond, not, ◌&&◌, List, [], ◌∷◌, length, ◌==◌, nat_lt, Some, None, Option, slice_index_or}
+use Rattle.std.specs.List.{count_by, find}
 use Rattle.std.specs.Option.{option_map}
 use Rattle.disks.specs.Device.{zeros}
 use Rattle.disks.specs.Disks.{all_zero}
@@ -12,6 +12,7 @@ use Rattle.pieces.specs.declared.changed.Key.{Key}
 use Rattle.pieces.specs.Entries.{free_entry}
 use Rattle.pieces.specs.Kept.{Kept, WasSet, entry_at, raised, sets, vacated}
 use Rattle.pieces.specs.Meaning.{Sound, look, shown, age_of, held, stored_at}
+use Rattle.pieces.specs.Changes.{key_of, is_before, is_below}
 use Rattle.pieces.specs.Ranges.{is_within}
 
 -- what is kept, with what the places of data hold
@@ -108,3 +109,39 @@ pub record Tidies (size next : ℕ) (hs : List Head) (k m : Kept) : Type 0 where
 
 abbrev pub TidyMeans : Type 0
 TidyMeans = (size next : ℕ) (hs : List Head) (k : Kept) → Sound size k → Tidies size next hs k (tidied next hs k)
+
+-- WHAT TAKING OVER MEANS. The blocks that are listed are of volumes, have eight sectors, lie in the range, and none comes twice.
+abbrev pub is_filled : (volume block : ℕ) → Filled → Bool
+is_filled v b x = x.volume == v && x.block == b
+
+abbrev pub is_in : Key → Option Key → (volume block : ℕ) → Bool
+is_in from next v b = not (is_before (key_of v b) from) && is_below (key_of v b) next
+
+pub record IsWhole (from : Key) (next : Option Key) (x : Filled) : Type 0 where
+  pub volume : 1 ≤ x.volume
+  pub eight : length x.sectors ≡ 8
+  pub long : (i : ℕ) → i < 8 → length (slice_index_or x.sectors i []) ≡ 512
+  pub within : is_in from next x.volume x.block ≡ true
+
+abbrev pub AreWhole : Key → Option Key → List Filled → Type 0
+AreWhole from next [] = Unit
+AreWhole from next (x ∷ xs) = IsWhole from next x × (find (is_filled x.volume x.block) xs ≡ None) × AreWhole from next xs
+
+-- a block holds what it held, and is no younger
+pub record Stays (v b : ℕ) (h m : Held) : Type 0 where
+  pub shown_same : (i : ℕ) → i < 8 → shown m.data' m.kept v (8 * b + i) ≡ shown h.data' h.kept v (8 * b + i)
+  pub aged : age_of v b h.kept ≤ age_of v b m.kept
+
+-- a block that is listed holds that; another of the range is zeros, if the list is the whole of it; all others are as they were
+pub record Replaced (size : ℕ) (from : Key) (next : Option Key) (whole : Bool) (floor : ℕ) (bs : List Filled) (h m : Held) : Type 0 where
+  pub sound : Sound size m.kept
+  pub listed : (v b : ℕ) (x : Filled) → find (is_filled (suc v) b) bs ≡ Some x → (i : ℕ) → i < 8 → shown m.data' m.kept (suc v) (8 * b + i) ≡ slice_index_or x.sectors i []
+  pub stamped : (v b : ℕ) (x : Filled) → find (is_filled (suc v) b) bs ≡ Some x → x.stamp ≤ age_of (suc v) b m.kept
+  pub unlisted_whole : (v b : ℕ) → whole ≡ true → is_in from next (suc v) b ≡ true → find (is_filled (suc v) b) bs ≡ None → (i : ℕ) → i < 8 → shown m.data' m.kept (suc v) (8 * b + i) ≡ zeros 512
+  pub unlisted : (v b : ℕ) → whole ≡ false → find (is_filled (suc v) b) bs ≡ None → Stays (suc v) b h m
+  pub outside : (v b : ℕ) → is_in from next (suc v) b ≡ false → Stays (suc v) b h m
+  pub floor_risen : floor ≤ m.kept.floor
+
+abbrev pub ReplaceMeans : Type 0
+ReplaceMeans = (size : ℕ) (from : Key) (next : Option Key) (whole : Bool) (most floor : ℕ) (bs : List Filled) (h m : Held) →
+    Sound size h.kept → AreWhole from next bs → replaces from next whole most floor bs h ≡ Some m → Replaced size from next whole floor bs h m
