@@ -7,3 +7,4 @@ pub mod Writing
 pub mod Due
 pub mod Tidying
 pub mod Written
+pub mod Taking
