@@ -8,3 +8,4 @@ pub mod Due
 pub mod Tidying
 pub mod Written
 pub mod Taking
+pub mod Taken
