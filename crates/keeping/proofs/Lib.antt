@@ -9,3 +9,4 @@ pub mod Tidying
 pub mod Written
 pub mod Taking
 pub mod Taken
+pub mod Fitting

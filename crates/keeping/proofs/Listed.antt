@@ -60,6 +60,15 @@ module _ (since : Option Stamp) (es : List Entry) (small : Small es) where
           let f = found from y l e in
           (subst P f.same (h f.index f.inside (λ z. f.volume (ap (λ (z : Entry). z.volume.0) (sym f.same) ∙ z))), ih (key_behind y) (behind_small from y f))
 
+  pub listed_few : (n : ℕ) (from : Key) → length (listed n since from es).blocks ≤ n
+  unfolding listed
+  listed_few zero from = omega arith
+  listed_few (suc n) from = go (nearest since from es) (λ k. listed_few n k)
+    where
+      go : (o : Option Entry) → ((k : Key) → length (listed n since k es).blocks ≤ n) → length (listed_on o (λ k. listed n since k es)).blocks ≤ suc n
+      go None ih = omega arith
+      go (Some y) ih = omega (arith, ih (key_behind y))
+
   -- the next key is no lower
   pub listed_next : (n : ℕ) (from to : Key) → from.block.0 ≤ 137438953472 → (listed n since from es).next ≡ Some to → (to.block.0 ≤ 137438953472) × (number_of from ≤ number_of to)
   unfolding listed

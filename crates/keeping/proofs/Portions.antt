@@ -18,12 +18,10 @@ use Rattle.pieces.specs.Replaces.{Held}
 use Rattle.pieces.proofs.Looking.{zeros_at, place_looked, stamp_looked}
 use Rattle.pieces.proofs.ListMeaning.{list_means}
 use Rattle.pieces.proofs.ListEnding.{list_ends}
-use Rattle.volumes.specs.Service.{Service}
 use Rattle.copies.specs.Service.{Stamped, in_range, lookup}
 use Rattle.served.specs.Blocks.{Block, empty_block, volume_of, block_of}
-use Rattle.served.specs.Room.{is_gone}
 use Rattle.keeping.specs.Keeping.{key_at, look_held, stamp_held, since_of, stamped, most_listed, portion_held, Good}
-use Rattle.keeping.proofs.Keys.{key_parts, block_small, volume_key, block_key, before_number, not_below, iff_same, has_volume}
+use Rattle.keeping.proofs.Keys.{key_parts, block_small, volume_key, block_key, before_number, not_below, iff_same}
 use Rattle.keeping.proofs.Listed.{listed_each, listed_next}
 
 -- RANGES
@@ -113,18 +111,11 @@ module _ (size : ℕ) (h : Held) (g : Good size h) where
   small64 : (i : ℕ) → (get_or h.kept.entries i free_entry).block.0 < 18446744073709551615
   small64 i = omega (arith, g.small i)
 
-  pub portion_says : (r : Service) (whole : Bool) (base key k : ℕ) → is_gone r k ≡ false → in_range key (portion_held whole base key h).next k ≡ true → SaysOf whole base h k (lookup k (portion_held whole base key h).blocks)
-  unfolding portion_held
-  portion_says r whole base key k alive inside =
-      subst (λ (o : Option (Stamped Block)). SaysOf whole base h k o)
-      (sym (lookup_listed h (listed most_listed (since_of whole base) (key_at key) h.kept.entries).blocks k
-      (listed_each (since_of whole base) h.kept.entries g.small (λ (e : Entry). e.block.0 < 137438953472) (λ i l u. g.small i) most_listed (key_at key) (omega (arith, block_small key)))))
-      (says_of whole base k h (find (is_block (volume_of k) (block_of k)) (listed most_listed (since_of whole base) (key_at key) h.kept.entries).blocks)
-      (λ e. find_passes (is_block (volume_of k) (block_of k)) (listed most_listed (since_of whole base) (key_at key) h.kept.entries).blocks e) says)
+  -- what the list says of a key in the range
+  pub listed_says : (whole : Bool) (base key k : ℕ) → volume_of k ≢ 0 → in_range key (option_map number_of (listed most_listed (since_of whole base) (key_at key) h.kept.entries).next) k ≡ true →
+      Says (since_of whole base) h.kept (volume_of k) (block_of k) (find (is_block (volume_of k) (block_of k)) (listed most_listed (since_of whole base) (key_at key) h.kept.entries).blocks)
+  listed_says whole base key k used inside = of (volume_of k) refl
     where
-      next : Option Key
-      next = (listed most_listed (since_of whole base) (key_at key) h.kept.entries).next
-
       behind : is_before (key_at k) (key_at key) ≡ false
       behind = before_number (key_at k) (key_at key) (block_small k) (omega (arith, block_small key)) ∙ not_below (number_of (key_at k)) (number_of (key_at key)) (omega (arith, key_parts k, key_parts key, in_low key k _ inside))
 
@@ -134,13 +125,22 @@ module _ (size : ℕ) (h : Held) (g : Good size h) where
           let b = listed_next (since_of whole base) h.kept.entries g.small most_listed (key_at key) to (omega (arith, block_small key)) e in
           before_number (key_at k) to (block_small k) b.0 ∙ lt-ltb (number_of (key_at k)) (number_of to) (omega (arith, key_parts k, in_high key k (number_of to) _ i refl))
 
-      says : Says (since_of whole base) h.kept (volume_of k) (block_of k) (find (is_block (volume_of k) (block_of k)) (listed most_listed (since_of whole base) (key_at key) h.kept.entries).blocks)
-      says =
-          let v = has_volume r k alive in
-          subst (λ (n : ℕ). Says (since_of whole base) h.kept n (block_of k) (find (is_block n (block_of k)) (listed most_listed (since_of whole base) (key_at key) h.kept.entries).blocks)) (sym v.1)
-          (list_means size most_listed (since_of whole base) (key_at key) h.kept v.0 (block_of k) g.sound small64
-          (ap (λ (n : ℕ). is_before (changes.key_of n (block_of k)) (key_at key)) (sym v.1) ∙ behind)
-          (ap (λ (n : ℕ). is_below (changes.key_of n (block_of k)) (listed most_listed (since_of whole base) (key_at key) h.kept.entries).next) (sym v.1) ∙ below _ refl inside))
+      of : (v : ℕ) → volume_of k ≡ v → Says (since_of whole base) h.kept (volume_of k) (block_of k) (find (is_block (volume_of k) (block_of k)) (listed most_listed (since_of whole base) (key_at key) h.kept.entries).blocks)
+      of zero e = absurd (used e)
+      of (suc v) e =
+          subst (λ (n : ℕ). Says (since_of whole base) h.kept n (block_of k) (find (is_block n (block_of k)) (listed most_listed (since_of whole base) (key_at key) h.kept.entries).blocks)) (sym e)
+          (list_means size most_listed (since_of whole base) (key_at key) h.kept v (block_of k) g.sound small64
+          (ap (λ (n : ℕ). is_before (changes.key_of n (block_of k)) (key_at key)) (sym e) ∙ behind)
+          (ap (λ (n : ℕ). is_below (changes.key_of n (block_of k)) (listed most_listed (since_of whole base) (key_at key) h.kept.entries).next) (sym e) ∙ below _ refl inside))
+
+  pub portion_says : (whole : Bool) (base key k : ℕ) → volume_of k ≢ 0 → in_range key (portion_held whole base key h).next k ≡ true → SaysOf whole base h k (lookup k (portion_held whole base key h).blocks)
+  unfolding portion_held
+  portion_says whole base key k used inside =
+      subst (λ (o : Option (Stamped Block)). SaysOf whole base h k o)
+      (sym (lookup_listed h (listed most_listed (since_of whole base) (key_at key) h.kept.entries).blocks k
+      (listed_each (since_of whole base) h.kept.entries g.small (λ (e : Entry). e.block.0 < 137438953472) (λ i l u. g.small i) most_listed (key_at key) (omega (arith, block_small key)))))
+      (says_of whole base k h (find (is_block (volume_of k) (block_of k)) (listed most_listed (since_of whole base) (key_at key) h.kept.entries).blocks)
+      (λ e. find_passes (is_block (volume_of k) (block_of k)) (listed most_listed (since_of whole base) (key_at key) h.kept.entries).blocks e) (listed_says whole base key k used inside))
 
   pub left_most : (k : ℕ) → left_held h k ≤ entries_of size
   unfolding left_held
