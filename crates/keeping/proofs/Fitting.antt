@@ -34,12 +34,12 @@ use Rattle.keeping.proofs.Moves.{slot_of, slot_looked, eight_looked}
 clash : {A : Type 0} → false ≡ true → A
 clash e = let z : ◌≡◌ {A = ℕ} 0 1 = cc in absurd (omega arith)
 
-all_from : {X : Type 0} (P : X → Type 0) (xs : List X) → AllByRecursion P xs → All P xs
+pub all_from : {X : Type 0} (P : X → Type 0) (xs : List X) → AllByRecursion P xs → All P xs
 all_from P [] a k d l = absurd (omega arith)
 all_from P (x ∷ xs) a zero d l = a.0
 all_from P (x ∷ xs) a (suc k) d l = all_from P xs a.1 k d (omega arith)
 
-are_zeros : (n : ℕ) → (all_zero (zeros n) ≡ true) × (length (zeros n) ≡ n)
+pub are_zeros : (n : ℕ) → (all_zero (zeros n) ≡ true) × (length (zeros n) ≡ n)
 unfolding all_zero zeros
 are_zeros zero = (refl, refl)
 are_zeros (suc n) = ((are_zeros n).0, ap suc (are_zeros n).1)
@@ -75,7 +75,7 @@ pub blank_entries : (size : ℕ) (s : Kept) → EntriesWithin s (blank_kept size
 blank_entries size s v b has = absurd (has (none_blank size v b))
 
 -- COUNTING: what is among these blocks, of which each has one entry, is no more than they are
-abbrev among : List Entry → Entry → Bool
+abbrev pub among : List Entry → Entry → Bool
 among ys e = list_any (λ (y : Entry). is_block y.volume.0 y.block.0 e) ys
 
 split_one : (a b c : Bool) → (a ≡ true → (b || c) ≡ true) → one a ≤ one b + one c
@@ -92,12 +92,12 @@ none_counted : (es : List Entry) → count_by (among []) es ≡ 0
 none_counted [] = refl
 none_counted (e ∷ es) = omega (arith, sum_by-cons (λ (z : Entry). cond (among [] z) 1 0) e es, none_counted es)
 
-among_few : (ys es : List Entry) → AllByRecursion (λ (y : Entry). count_by (is_block y.volume.0 y.block.0) es ≤ 1) ys → count_by (among ys) es ≤ length ys
+pub among_few : (ys es : List Entry) → AllByRecursion (λ (y : Entry). count_by (is_block y.volume.0 y.block.0) es ≤ 1) ys → count_by (among ys) es ≤ length ys
 among_few [] es a = omega (arith, none_counted es)
 among_few (y ∷ ys) es a =
     omega (arith, a.0, among_few ys es a.1, sum_split (among (y ∷ ys)) (is_block y.volume.0 y.block.0) (among ys) es (λ i. split_one (among (y ∷ ys) (get_or es i free_entry)) (is_block y.volume.0 y.block.0 (get_or es i free_entry)) (among ys (get_or es i free_entry)) (λ e. e)))
 
-count_less : (f g : Entry → Bool) (es : List Entry) → ((i : ℕ) → f (get_or es i free_entry) ≡ true → g (get_or es i free_entry) ≡ true) → count_by f es ≤ count_by g es
+pub count_less : (f g : Entry → Bool) (es : List Entry) → ((i : ℕ) → f (get_or es i free_entry) ≡ true → g (get_or es i free_entry) ≡ true) → count_by f es ≤ count_by g es
 count_less f g [] l = omega arith
 count_less f g (e ∷ es) l = omega (arith, sum_by-cons (λ (z : Entry). cond (f z) 1 0) e es, sum_by-cons (λ (z : Entry). cond (g z) 1 0) e es, at (f e) (g e) (l 0), count_less f g es (λ i. l (suc i)))
   where
@@ -105,7 +105,7 @@ count_less f g (e ∷ es) l = omega (arith, sum_by-cons (λ (z : Entry). cond (f
     at true b h = omega (arith, ap one (h refl))
     at false b h = omega arith
 
-found_among : (v b : ℕ) (ys : List Entry) (y e : Entry) → find (is_block v b) ys ≡ Some y → is_block v b e ≡ true → among ys e ≡ true
+pub found_among : (v b : ℕ) (ys : List Entry) (y e : Entry) → find (is_block v b) ys ≡ Some y → is_block v b e ≡ true → among ys e ≡ true
 found_among v b [] y e f t = let d : ◌≡◌ {A = ℕ} 0 1 = cc in absurd (omega arith)
 found_among v b (z ∷ ys) y e f t = go (is_block v b z) refl (found_among v b ys y e) f
   where

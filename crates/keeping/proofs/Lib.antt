@@ -10,3 +10,4 @@ pub mod Written
 pub mod Taking
 pub mod Taken
 pub mod Fitting
+pub mod Fits

@@ -24,17 +24,20 @@ slot_of h k i = shown h.data' h.kept (volume_of k) (8 * block_of k + i)
 abbrev pub age_at : Held → ℕ → ℕ
 age_at h k = age_of (volume_of k) (block_of k) h.kept
 
-pub slot_looked : (h : Held) (k i : ℕ) → i < 8 → get_or (look_held h k) i [] ≡ slot_of h k i
+pub slot_looked_or : (d : List ℕ) (h : Held) (k i : ℕ) → i < 8 → get_or (look_held h k) i d ≡ slot_of h k i
 unfolding look_held
-slot_looked h k zero l = refl
-slot_looked h k (suc zero) l = refl
-slot_looked h k (suc (suc zero)) l = refl
-slot_looked h k (suc (suc (suc zero))) l = refl
-slot_looked h k (suc (suc (suc (suc zero)))) l = refl
-slot_looked h k (suc (suc (suc (suc (suc zero))))) l = refl
-slot_looked h k (suc (suc (suc (suc (suc (suc zero)))))) l = refl
-slot_looked h k (suc (suc (suc (suc (suc (suc (suc zero))))))) l = refl
-slot_looked h k (suc (suc (suc (suc (suc (suc (suc (suc i)))))))) l = absurd (omega (arith, l))
+slot_looked_or d h k zero l = refl
+slot_looked_or d h k (suc zero) l = refl
+slot_looked_or d h k (suc (suc zero)) l = refl
+slot_looked_or d h k (suc (suc (suc zero))) l = refl
+slot_looked_or d h k (suc (suc (suc (suc zero)))) l = refl
+slot_looked_or d h k (suc (suc (suc (suc (suc zero))))) l = refl
+slot_looked_or d h k (suc (suc (suc (suc (suc (suc zero)))))) l = refl
+slot_looked_or d h k (suc (suc (suc (suc (suc (suc (suc zero))))))) l = refl
+slot_looked_or d h k (suc (suc (suc (suc (suc (suc (suc (suc i)))))))) l = absurd (omega (arith, l))
+
+pub slot_looked : (h : Held) (k i : ℕ) → i < 8 → get_or (look_held h k) i [] ≡ slot_of h k i
+slot_looked h k i l = slot_looked_or [] h k i l
 
 pub eight_looked : (h : Held) (k : ℕ) → length (look_held h k) ≡ 8
 unfolding look_held

@@ -31,7 +31,7 @@ at_or_behind key k =
     number =
         before_number (key_at k) (key_at key) (block_small k) (omega (arith, block_small key)) ∙ ap (λ (n : ℕ). ltb n (number_of (key_at key))) (key_parts k) ∙ ap (λ (n : ℕ). ltb k n) (key_parts key)
 
-range_same : (key : ℕ) (next : Option ℕ) (k : ℕ) → in_range key next k ≡ is_in (key_at key) (option_map key_at next) (volume_of k) (block_of k)
+pub range_same : (key : ℕ) (next : Option ℕ) (k : ℕ) → in_range key next k ≡ is_in (key_at key) (option_map key_at next) (volume_of k) (block_of k)
 range_same key None k = at_or_behind key k ∙ sym (true_right (not (is_before (key_at k) (key_at key))))
   where
     true_right : (b : Bool) → (b && true) ≡ b
