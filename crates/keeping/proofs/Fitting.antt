@@ -68,8 +68,11 @@ none_blank size v b = go (index_of (suc v) b (blank_kept size).entries) refl
     go (Some i) e =
         clash (sym (no_block v b) ∙ sym (ap (is_block (suc v) b) (defaults (entries_of size) free_entry i)) ∙ (position-Some (is_block (suc v) b) (blank_kept size).entries i free_entry e).1)
 
+pub blank_place : (size v n : ℕ) → place_of (suc v) n (blank_kept size) ≡ 0
+blank_place size v n = ap (λ (o : Option ℕ). place_in o (n % 8) (blank_kept size)) (none_blank size v (n / 8))
+
 pub blank_within : (size : ℕ) (s : Kept) → Within s (blank_kept size)
-blank_within size s v n held = absurd (held (ap (λ (o : Option ℕ). place_in o (n % 8) (blank_kept size)) (none_blank size v (n / 8))))
+blank_within size s v n held = absurd (held (blank_place size v n))
 
 pub blank_entries : (size : ℕ) (s : Kept) → EntriesWithin s (blank_kept size)
 blank_entries size s v b has = absurd (has (none_blank size v b))

@@ -11,3 +11,4 @@ pub mod Taking
 pub mod Taken
 pub mod Fitting
 pub mod Fits
+pub mod Keeper
