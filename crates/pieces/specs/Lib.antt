@@ -6,6 +6,7 @@ pub mod Meaning
 pub mod Changes
 pub mod Ranges
 pub mod Replaces
+pub mod Replacing
 pub mod Tables
 pub mod Agreements
 pub mod Counts

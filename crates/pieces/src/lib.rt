@@ -4,6 +4,7 @@
 pub mod changed;
 pub mod counts;
 pub mod entry;
+pub mod filled;
 pub mod forget;
 pub mod layout;
 pub mod load;
