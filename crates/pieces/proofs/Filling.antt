@@ -88,7 +88,7 @@ floor_rises size w s h f = thinned size s (raised w h.kept) h f (record { entrie
     x : Sound size h.kept
     x = f.sound
 
-vacated_thins : (size : ℕ) (g : Entry → Bool) (k : Kept) → Sound size k → Thinned k (vacates_where g (length k.entries) k)
+pub vacated_thins : (size : ℕ) (g : Entry → Bool) (k : Kept) → Sound size k → Thinned k (vacates_where g (length k.entries) k)
 vacated_thins size g k x j = go (g (entry_at j k)) refl
   where
     v : Vacates size g k (vacates_where g (length k.entries) k)

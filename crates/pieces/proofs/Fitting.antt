@@ -1,4 +1,5 @@
--- Where another directory holds all that this one does and this sector too, it has room here: it has a place, or fewer are held here than there.
+-- Where another directory holds all that this one does and this sector too, there is room here: the sector has a place, or fewer are held
+-- here than there.
 use Rattle.std.proofs.Common.{◌≡◌, ℕ, zero, suc, ◌/◌, ◌%◌, Bool, false, cond, Some, None, Option, refl, ap, ◌∙◌, arith}
 use Rattle.std.proofs.lemmas.List.Sums.{count_by-le-length}
 use Rattle.std.proofs.lemmas.Bool.{ne_eqb}

@@ -116,7 +116,8 @@ block_shown d k v b =
     ∷ shown d k v (8 * b + 7)
     ∷ []
 
--- What bounds numbers that are distinct bounds what is held, where to a block's number no less is given than how many of its sectors are not zeros.
+-- What bounds numbers that are distinct bounds what is held, where to a block's number no less is given than how many of its sectors are not
+-- zeros.
 pub record HeldByNumbers : Type 0 where
   pub filled_used : (v b : ℕ) (d : ℕ → List ℕ) (k : Kept) → used_of d k (key_of v b) ≡ filled (block_shown d k v b)
   pub bounded : (size bound : ℕ) (d : ℕ → List ℕ) (k : Kept) (g : ℕ → ℕ) → Sound size k → Clean k → NoBlanks d k → ((j : ℕ) → j < length k.entries → (entry_at j k).block.0 < 137438953472) →

@@ -31,6 +31,21 @@ pub record FitsIn (size : ℕ) (s : Kept) (h : Held) : Type 0 where
   pub held : Within s h.kept
   pub entries : EntriesWithin s h.kept
 
+-- sound, and without blanks
+pub record IsClean (size : ℕ) (h : Held) : Type 0 where
+  pub sound : Sound size h.kept
+  pub clean : Clean h.kept
+  pub no_blanks : NoBlanks h.data' h.kept
+
+abbrev pub IsOfVolume : Filled → Type 0
+IsOfVolume b = b.volume ≢ 0
+
+-- It stays so when a sector is set, when entries are given up, and when a range is taken over, from wherever.
+pub record ReplacesStaysClean : Type 0 where
+  pub sector : (size v n w : ℕ) (bs : List ℕ) (h m : Held) → IsClean size h → v ≢ 0 → sets_held v n bs w h ≡ Some m → IsClean size m
+  pub thinned : (size : ℕ) (h : Held) (m : Kept) → IsClean size h → Sound size m → Thinned h.kept m → IsClean size (record { kept = m; data' = h.data' })
+  pub range : (size most floor : ℕ) (from : Key) (next : Option Key) (whole : Bool) (bs : List Filled) (h m : Held) → IsClean size h → All IsOfVolume bs → replaces from next whole most floor bs h ≡ Some m → IsClean size m
+
 -- a block of the other, which holds each of its sectors that is not zeros
 pub record IsFrom (s : Kept) (b : Filled) : Type 0 where
   pub volume : b.volume ≢ 0

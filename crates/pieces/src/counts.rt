@@ -1,5 +1,5 @@
 // What is promised of how many sectors are held.
-ghost use Rattle.pieces.specs.Fits.{FewerInRange, FitsStay};
+ghost use Rattle.pieces.specs.Fits.{FewerInRange, FitsStay, ReplacesStaysClean};
 ghost use Rattle.pieces.specs.Counts.{HeldWithin, HeldFits, FitsWithin, HeldByBlocks, HeldUsed, HeldByNumbers, SetStaysClean, ThinnedStaysClean};
 
 // A directory that holds no sector that another one doesn't holds no more, so it has room for each that the other holds.
@@ -21,8 +21,9 @@ pub fn held_by_blocks()
 {}
 
 // What another directory holds, and no less than this one, is taken over: there is room for it.
-#[tactic(auto, using(crate::proofs::InUse::fewer_in_range, crate::proofs::Filling::fits_stay))]
+#[tactic(auto, using(crate::proofs::InUse::fewer_in_range, crate::proofs::Filling::fits_stay, crate::proofs::FillSteps::replaces_stays_clean))]
 pub fn fits_in()
     ensures range { FewerInRange }
     ensures stays { FitsStay }
+    ensures clean { ReplacesStaysClean }
 {}
