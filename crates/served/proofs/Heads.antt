@@ -1,5 +1,5 @@
 -- Lists of heads whose numbers rise: what is added, changed or taken out; and what each of them counts.
-use Rattle.std.proofs.Common.{◌≡◌, ℕ, suc, ◌+◌, ◌<◌, ◌≤◌, Bool, true, false, cond, ◌||◌, ◌≢◌, List, [], ◌∷◌, ◌++◌, eqb, sym, refl, ap, ap₂, ◌∙◌, subst, arith, eqb-true, eq-eqb, ne_eqb}
+use Rattle.std.proofs.Common.{◌≡◌, ℕ, suc, ◌+◌, ◌<◌, ◌≤◌, Bool, true, false, cond, ◌||◌, ◌≢◌, List, [], ◌∷◌, ◌++◌, length, eqb, sym, refl, ap, ap₂, ◌∙◌, subst, arith, eqb-true, eq-eqb, ne_eqb}
 use borrow.Author.Tests.{eqb-false}
 use Rattle.std.specs.List.{list_any}
 use Rattle.agreement.proofs.Base.{by_test}
@@ -48,6 +48,17 @@ none_without v low high (h ∷ hs) r =
     (λ t. none_below v (suc h.number.0) high hs (omega (arith, eqb-true v h.number.0 t)) r.1)
     (λ t. ap₂ (λ (a b : Bool). a || b) t (none_without v (suc h.number.0) high hs r.1))
 
+-- how many there are
+pub length-changed : (v : ℕ) (j : Head → Head) (hs : List Head) → length (change (is_head v) j hs) ≡ length hs
+unfolding change
+length-changed v j [] = refl
+length-changed v j (h ∷ hs) = by_test (λ (ks : List Head). length ks ≡ suc (length hs)) (is_head v h) (λ _. refl) (λ _. ap suc (length-changed v j hs))
+
+pub length_without : (p : Head → Bool) (hs : List Head) → length (without p hs) ≤ length hs
+unfolding without
+length_without p [] = omega arith
+length_without p (h ∷ hs) = by_test (λ (ks : List Head). length ks ≤ suc (length hs)) (p h) (λ _. omega arith) (λ _. omega (arith, length_without p hs))
+
 -- what is found
 found_first : {A : Type 0} (b : Bool) (x y : A) (ys : List A) → b ≡ true → cond b (x ∷ []) ys ≡ y ∷ [] → x ≡ y
 found_first true x y ys t e = cc
@@ -76,6 +87,7 @@ pub counts_same : (f g : ℕ → Block) (h : Head) → ((n : ℕ) → n < 109951
 counts_same f g h e c =
     record {
       size = c.size;
+      token = c.token;
       count = used_same h.size.0 (sector_in g h.number.0) (sector_in f h.number.0) (λ n l. sym (e n (omega (arith, c.size)))) ∙ c.count;
       beyond = λ n l m. sym (e n m) ∙ c.beyond n l m;
     }

@@ -1,12 +1,15 @@
-mod Seeing
-mod Decoding
-mod Steps
-mod Living
-mod Heads
-mod Writing
-mod Rooms
-mod Lawful
+pub mod Keys
+pub mod Seeing
+pub mod Decoding
+pub mod Steps
+pub mod Living
+pub mod Heads
+pub mod Writing
+pub mod Rooms
+pub mod Lawful
 mod Totals
 pub mod Bounds
-mod Sectors
-mod OnePlace
+pub mod Sectors
+pub mod Replies
+pub mod OnePlace
+pub mod Meaning

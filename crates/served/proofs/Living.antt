@@ -8,7 +8,7 @@ use Rattle.volumes.specs.declared.head.Head.{Head}
 use Rattle.volumes.specs.Service.{Service, Served, is_head, is_living, without}
 use Rattle.served.specs.Blocks.{Block, volume_of}
 use Rattle.served.specs.Room.{is_gone}
-use Rattle.served.proofs.Steps.{Leaves, stays, makes, attaches, writes, drops}
+use Rattle.served.proofs.Steps.{Leaves, stays, reads, makes, attaches, writes, drops}
 
 pub never : {A : Type 0} → ◌≡◌ {A = Bool} true false → A
 never e = let z : ◌≡◌ {A = ℕ} 0 1 = cc in absurd (omega arith)
@@ -68,9 +68,10 @@ living_made n w false e = grind (arith, nat_tests)
 -- a volume that lives afterwards lived before
 pub lived : (room : ℕ) (r : Service) (f : ℕ → Block) (s : Served) → Leaves room r f s → (w : ℕ) → is_living s.service.next s.service.heads w ≡ true → is_living r.next r.heads w ≡ true
 lived room r f s (stays a c) w e = e
-lived room r f s (makes z l m) w e =
+lived room r f s (reads v n h g l) w e = e
+lived room r f s (makes z l i j m) w e =
     living_made r.next w (list_any (is_head w) r.heads) (and_more (not (eqb w 0)) _ (leb (r.next + 1) w || (list_any (is_head w) r.heads || eqb w r.next)) (or_more (leb (r.next + 1) w) _ _ (λ g. sym (any_pushed (is_head w) r.heads _) ∙ g)) e)
-lived room r f s (attaches v h g) w e = and_more (not (eqb w 0)) _ (leb r.next w || list_any (is_head w) r.heads) (or_more (leb r.next w) _ _ (λ g. sym (any_changed w v _ r.heads (λ k. refl)) ∙ g)) e
+lived room r f s (attaches v h g l) w e = and_more (not (eqb w 0)) _ (leb r.next w || list_any (is_head w) r.heads) (or_more (leb r.next w) _ _ (λ g. sym (any_changed w v _ r.heads (λ k. refl)) ∙ g)) e
 lived room r f s (writes v n b h g l k x) w e = and_more (not (eqb w 0)) _ (leb r.next w || list_any (is_head w) r.heads) (or_more (leb r.next w) _ _ (λ g. sym (any_changed w v _ r.heads (λ k. refl)) ∙ g)) e
 lived room r f s (drops v h g) w e = and_more (not (eqb w 0)) _ (leb r.next w || list_any (is_head w) r.heads) (or_more (leb r.next w) _ _ (any_without (is_head w) (is_head v) r.heads)) e
 

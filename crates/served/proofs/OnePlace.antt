@@ -1,29 +1,23 @@
 -- The service is the volumes in one place. Both do the same to heads, if what they read is the same: that is read only within a head's
--- size, where it lives. So the meaning is met, as it is met in one place.
-use Rattle.std.proofs.Common.{◌≡◌, ℕ, suc, ◌+◌, ◌*◌, ◌/◌, ◌%◌, ◌<◌, ◌≤◌, Bool, true, false, cond, not, ◌&&◌, ◌||◌, T, ◌⊎◌, List, [], ◌∷◌, length, slice_index_or, drop, Some, None, Option, eqb, leb, ltb, sym, refl, ap, ◌∙◌, subst, inl, inr, arith, length-drop}
+-- size, where it lives.
+use Rattle.std.proofs.Common.{◌≡◌, ℕ, ◌/◌, ◌%◌, ◌<◌, ◌≤◌, Bool, true, false, cond, not, ◌&&◌, ◌||◌, List, [], ◌∷◌, slice_index_or, eqb, leb, ltb, sym, refl, ap, ◌∙◌, arith}
 use Rattle.std.specs.List.{list_any}
 use Rattle.std.proofs.lemmas.Bool.Decides.{nat_tests}
-use Rattle.agreement.proofs.Base.{by_test}
-use Rattle.disks.specs.Device.{zeros, all_bytes}
-use Rattle.disks.specs.Disks.{find, all_zero, State, blank, Answers, core, Call, Make, Attach, Read, Write, Sync, Picture', Copy, Drop, DropPicture, Reply, No, Sector}
-use Rattle.octets.proofs.Fields.{bytes_drop}
-use Rattle.wire.specs.declared.kind.Kind.{Kind}
-use Rattle.wire.specs.declared.kind.Kind.TheVariants as kinds
-use Rattle.wire.specs.Kinds.{kind_in, is_built}
-use Rattle.wire.specs.Calls.{Decoded, is_call, is_refused, or_malformed, decoded_as, decoded, length_for, call_of}
+use Rattle.disks.specs.Device.{zeros}
+use Rattle.disks.specs.Disks.{find, Call, Make, Attach, Read, Write, Sync, Picture', Copy, Drop, DropPicture, No, Sector}
+use Rattle.wire.specs.Calls.{Decoded, is_call, is_refused}
 use Rattle.wire.specs.Answers.{answer_bytes}
 use Rattle.volumes.specs.declared.head.Head.{Head}
 use Rattle.volumes.specs.Service.{Service, blank_service, Served, says, is_head, is_living, held, within, writes_head, serves}
-use Rattle.volumes.specs.Simulation.{Sectors, Store, blank_store, changed_by, read_at, needed, served_at, store_after, Same, WholeSector}
+use Rattle.volumes.specs.Simulation.{Sectors, Store, blank_store, changed_by, read_at, needed, served_at}
 use Rattle.volumes.proofs.Lists.{found_one}
-use Rattle.volumes.proofs.Alike.{serves_the_meaning}
 use Rattle.copies.specs.Service.{overwritten}
-use Rattle.served.specs.Blocks.{Block, empty_block, volume_of, key_of, key_at, sector_in}
+use Rattle.served.specs.Blocks.{Block, empty_block, key_at, sector_in}
 use Rattle.served.specs.Room.{is_gone, HasRoom}
-use Rattle.served.specs.Served.{seen, serves_decoded, serves_bytes, changes_of, reply_to, next_after, changes_by}
-use Rattle.served.specs.OnePlace.{Alike, answer_at, left_at, AsOnePlace, Means, Allowed, AsTheMeaning}
-use Rattle.served.proofs.Seeing.{volume_of-key_of, seen-living}
-use Rattle.served.proofs.Decoding.{on_decoded}
+use Rattle.served.specs.Served.{decoded_call, seen, serves_decoded, serves_bytes, changes_of, reply_to, next_after, changes_by}
+use Rattle.served.specs.OnePlace.{Alike, answer_at, left_at, AsOnePlace}
+use Rattle.served.proofs.Keys.{volume_of-key_of}
+use Rattle.served.proofs.Seeing.{seen-living}
 use Rattle.served.proofs.Steps.{Leaves, leaves}
 use Rattle.served.proofs.Living.{any_found, lived}
 use Rattle.served.proofs.Rooms.{room_same, empty_zeros, held_below, held_between, held_lives}
@@ -113,45 +107,13 @@ module _ (room : ℕ) (r : Service) (f : ℕ → Block) (t : Store) (p : HasRoom
   step (is_refused n) q = (ap (λ (x : Served). answer_bytes x.reply) (same_served (is_refused n)), after _ (says (No n) t.service) q (same_served (is_refused n)))
 
 -- THE ONE PLACE
-begins : Alike blank_service (λ k. empty_block) blank_store
+pub begins : Alike blank_service (λ k. empty_block) blank_store
 begins = record { service = refl; sectors = λ v n l e. empty_zeros (n % 8) (omega arith) }
 
-steps : (room : ℕ) (o : List ℕ) (r : Service) (f : ℕ → Block) (t : Store) → HasRoom room r f → Alike r f t →
-    (reply_to room o r f ≡ answer_at room (decoded is_built o) t) × Alike (next_after room o r f) (overwritten (changes_by room o r f) f) (left_at room (decoded is_built o) t)
+pub steps : (room : ℕ) (o : List ℕ) (r : Service) (f : ℕ → Block) (t : Store) → HasRoom room r f → Alike r f t →
+    (reply_to room o r f ≡ answer_at room (decoded_call o) t) × Alike (next_after room o r f) (overwritten (changes_by room o r f) f) (left_at room (decoded_call o) t)
 unfolding serves_bytes
-steps room o r f t p a = step room r f t p a (decoded is_built o) (leaves room r (seen r f) o)
+steps room o r f t p a = step room r f t p a (decoded_call o) (leaves room r (seen r f) o)
 
 pub as_one_place : AsOnePlace
 as_one_place = record { begins = begins; steps = steps }
-
--- THE MEANING
-whole_sector : (k : Kind) (bs : List ℕ) → T (all_bytes bs) → length bs ≡ length_for k → WholeSector (call_of k bs)
-whole_sector kinds.Make bs h e = tt
-whole_sector kinds.Attach bs h e = tt
-whole_sector kinds.Read bs h e = tt
-whole_sector kinds.Write bs h e = (rw length-drop (omega (arith, e)), bytes_drop 24 bs h)
-whole_sector kinds.Sync bs h e = tt
-whole_sector kinds.Picture bs h e = tt
-whole_sector kinds.Copy bs h e = tt
-whole_sector kinds.Drop bs h e = tt
-whole_sector kinds.DropPicture bs h e = tt
-
-abbrev Whole : Decoded → Type 0
-Whole (is_call c) = WholeSector c
-Whole (is_refused n) = Unit {0}
-
--- as it is of what one place answers and leaves
-met : (room : ℕ) (d : Decoded) → Whole d → (s : State) (t : Store) → Same s t → (answer : List ℕ) (r : Service) (f : ℕ → Block) → answer ≡ answer_at room d t → Alike r f (left_at room d t) → (u : State) × Allowed room d s answer u × Means u r f
-met room (is_call c) w s t q answer r f e a =
-    let x = serves_the_meaning.steps room s t q c w in
-    (x.0, ((served_at room c t).reply, e, x.1), record { store = store_after room c t; same = x.2; alike = a })
-met room (is_refused n) w s t q answer r f e a = (s, (e, refl), record { store = t; same = q; alike = a })
-
-pub as_the_meaning : AsTheMeaning
-as_the_meaning =
-    record {
-      begins = record { store = blank_store; same = serves_the_meaning.begins; alike = begins };
-      steps = λ room o s r f h p m.
-          let x = steps room o r f m.store p m.alike in
-          met room (decoded is_built o) (on_decoded Whole o tt tt (λ k e. whole_sector k (drop 1 o) (bytes_drop 1 o h) e)) s m.store m.same (reply_to room o r f) _ _ x.0 x.1;
-    }

@@ -1,5 +1,5 @@
 -- What volumes hold stays within the room.
-use Rattle.std.proofs.Common.{◌≡◌, ℕ, ◌+◌, ◌/◌, ◌%◌, ◌<◌, ◌≤◌, Bool, true, false, cond, not, ◌&&◌, ◌||◌, ◌≢◌, ◌⊎◌, List, [], ◌∷◌, length, slice_index_or, eqb, leb, ltb, sym, refl, ap, ap₂, ◌∙◌, subst, inl, inr, arith, eqb-true, ne_eqb, eq-eqb}
+use Rattle.std.proofs.Common.{◌≡◌, ℕ, ◌+◌, ◌/◌, ◌%◌, ◌<◌, ◌≤◌, Bool, true, false, cond, not, ◌&&◌, ◌||◌, ◌≢◌, ◌⊎◌, List, [], ◌∷◌, length, slice_index_or, length-append, eqb, leb, ltb, sym, refl, ap, ap₂, ◌∙◌, subst, inl, inr, arith, eqb-true, ne_eqb, eq-eqb}
 use Rattle.std.proofs.lemmas.Bool.Decides.{nat_tests}
 use Rattle.std.proofs.lemmas.Slice.Eq.{bytes_eq-Decides}
 use Rattle.std.specs.Prelude.{bytes_eq}
@@ -16,10 +16,10 @@ use Rattle.copies.specs.Service.{Change, overwritten}
 use Rattle.served.specs.Blocks.{Block, empty_block, key_of, volume_of, key_at, sector_in}
 use Rattle.served.specs.Room.{is_gone, Counts, IsBlock, HasRoom}
 use Rattle.served.specs.Served.{changes_of}
-use Rattle.served.proofs.Seeing.{volume_of-key_of}
-use Rattle.served.proofs.Steps.{Leaves, stays, makes, attaches, writes, drops, made, attached, wrote, dropped, counts}
+use Rattle.served.proofs.Keys.{volume_of-key_of}
+use Rattle.served.proofs.Steps.{Leaves, stays, reads, makes, attaches, writes, drops, made, attached, wrote, dropped, counts}
 use Rattle.served.proofs.Living.{never, any_found, gone-stays}
-use Rattle.served.proofs.Heads.{rising_bound, rising_pushed, rising-changed, rising_without, found_between, counts_same, count_pushed, count_without, count_found, count_each, count-changed}
+use Rattle.served.proofs.Heads.{length-changed, length_without, rising_bound, rising_pushed, rising-changed, rising_without, found_between, counts_same, count_pushed, count_without, count_found, count_each, count-changed}
 use Rattle.served.proofs.Writing.{over, sector-over, sector-held, block-over}
 
 -- WHAT LIVES
@@ -54,6 +54,8 @@ module _ (room : ℕ) (r : Service) (f g : ℕ → Block) (e : (k : ℕ) → (is
   pub room_same : HasRoom room r f → HasRoom room r g
   room_same p =
       record {
+        few = p.few;
+        limited = p.limited;
         rising = p.rising;
         counts = count_each f g 1 r.next r.heads r.heads (λ w q. q) (omega arith) p.rising (λ h q l c. counts_same f g h (λ n m. ap (λ (b : Block). slice_index_or b (n % 8) (zeros 512)) (same_at (key_at h.number.0 n) (head_lives r h.number.0 n l m q))) c) p.counts;
         weight = p.weight;
@@ -80,31 +82,37 @@ module _ (room : ℕ) (r : Service) (f : ℕ → Block) (p : HasRoom room r f) w
       go true d = not_both (is_gone s.service k) (gone-stays room r f s q k d) e
       go false d = refl
 
-  make_room : (z : ℕ) → z ≤ 1099511627776 → r.weight + 64 ≤ room → HasRoom room (made room r f z).service f
-  make_room z l m =
+  make_room : (z : ℕ) → z ≤ 1099511627776 → length r.heads < 4096 → r.next < 4611686018427387904 → r.weight + 64 ≤ room → HasRoom room (made room r f z).service f
+  make_room z l x y m =
       record {
+        few = rw length-append (omega (arith, x));
+        limited = omega (arith, y);
         rising = rising_pushed 1 r.next r.heads (new_head r.next z) refl p.rising;
-        counts = count_pushed f r.heads (new_head r.next z) (record { size = l; count = used_same z _ (λ n. zeros 512) (λ n i. fresh_sector r.next n (omega arith) (omega arith)) ∙ used-blank z; beyond = λ n i j. fresh_sector r.next n (omega arith) j }) p.counts;
+        counts = count_pushed f r.heads (new_head r.next z) (record { size = l; token = omega arith; count = used_same z _ (λ n. zeros 512) (λ n i. fresh_sector r.next n (omega arith) (omega arith)) ∙ used-blank z; beyond = λ n i j. fresh_sector r.next n (omega arith) j }) p.counts;
         weight = omega (arith, p.weight, weighs_push r.heads (new_head r.next z));
         within = m;
-        blocks = λ k e. p.blocks k (living_after _ (makes z l m) k e);
+        blocks = λ k e. p.blocks k (living_after _ (makes z l x y m) k e);
         fresh = λ k i. p.fresh k (omega arith);
       }
 
-  attach_room : (v : ℕ) (h : Head) → find (is_head v) r.heads ≡ h ∷ [] → HasRoom room (attached room r f v h).service f
-  attach_room v h e =
+  attach_room : (v : ℕ) (h : Head) → find (is_head v) r.heads ≡ h ∷ [] → h.token.0 < 4611686018427387903 → HasRoom room (attached room r f v h).service f
+  attach_room v h e l =
       record {
+        few = omega (arith, p.few, length-changed v (with_token (h.token.0 + 1)) r.heads);
+        limited = p.limited;
         rising = rising-changed v 1 r.next _ r.heads (λ k. refl) p.rising;
-        counts = count-changed f f v (λ k o c. c) 1 r.next _ h r.heads p.rising e (λ c. record { size = c.size; count = c.count; beyond = c.beyond }) p.counts;
+        counts = count-changed f f v (λ k o c. c) 1 r.next _ h r.heads p.rising e (λ c. record { size = c.size; token = omega (arith, l); count = c.count; beyond = c.beyond }) p.counts;
         weight = omega (arith, p.weight, weighs-changed v (with_token (h.token.0 + 1)) r.heads h e);
         within = p.within;
-        blocks = λ k d. p.blocks k (living_after _ (attaches v h e) k d);
+        blocks = λ k d. p.blocks k (living_after _ (attaches v h e l) k d);
         fresh = p.fresh;
       }
 
   drop_room : (v : ℕ) (h : Head) → find (is_head v) r.heads ≡ h ∷ [] → HasRoom room (dropped room r f v h).service f
   drop_room v h e =
       record {
+        few = omega (arith, p.few, length_without (is_head v) r.heads);
+        limited = p.limited;
         rising = rising_without (is_head v) 1 r.next r.heads p.rising;
         counts = count_without f (is_head v) r.heads p.counts;
         weight = omega (arith, p.weight, weighs-without v r.heads h e);
@@ -123,6 +131,12 @@ module _ (room : ℕ) (r : Service) (f : ℕ → Block) (p : HasRoom room r f) w
   pub held_lives : (v n : ℕ) (h : Head) → find (is_head v) r.heads ≡ h ∷ [] → n < h.size.0 → is_gone r (key_at v n) ≡ false
   held_lives v n h e l = head_lives r v n (held_between v h e).1 (held_below v n h e l) (any_found v r.heads h e)
 
+  -- sectors are whole
+  pub held_whole : (v n : ℕ) (h : Head) → find (is_head v) r.heads ≡ h ∷ [] → n < h.size.0 → length (sector_in f v n) ≡ 512
+  held_whole v n h e l =
+      let b : IsBlock (f (key_at v n)) = p.blocks (key_at v n) (held_lives v n h e l) in
+      b.whole (n % 8) (zeros 512) (omega (arith, b.eight))
+
   -- WRITES: one sector holds b, in blocks g
   module _ (v n : ℕ) (b : List ℕ) (h : Head) (e : find (is_head v) r.heads ≡ h ∷ []) (l : n < h.size.0) (w : length b ≡ 512) (fits : (all_zero (sector_in f v n) && not (all_zero b) && ltb room (r.weight + 1)) ≡ false) where
     abbrev was : List ℕ
@@ -134,6 +148,8 @@ module _ (room : ℕ) (r : Service) (f : ℕ → Block) (p : HasRoom room r f) w
     put_room : (g : ℕ → Block) → ((u m : ℕ) → m < 1099511627776 → sector_in g u m ≡ cond (eqb u v && eqb m n) b (sector_in f u m)) → ((k : ℕ) → is_gone r k ≡ false → IsBlock (g k)) → ((k : ℕ) → r.next ≤ volume_of k → g k ≡ empty_block) → HasRoom room (wrote room r f v n was b h).service g
     put_room g s bs fs =
         record {
+          few = omega (arith, p.few, length-changed v (with_used (counts room r f was b h)) r.heads);
+          limited = p.limited;
           rising = rising-changed v 1 r.next _ r.heads (λ k. refl) p.rising;
           counts = count-changed f g v others 1 r.next _ h r.heads p.rising e here p.counts;
           weight = omega (arith, p.weight, used_within, weighs-changed v (with_used (counts room r f was b h)) r.heads h e);
@@ -152,6 +168,7 @@ module _ (room : ℕ) (r : Service) (f : ℕ → Block) (p : HasRoom room r f) w
         here c =
             record {
               size = c.size;
+              token = c.token;
               count = used_same h.size.0 _ (λ m. cond (eqb m n) b (sector_in f h.number.0 m)) (λ m i. of_v m (omega (arith, c.size))) ∙ recounted h.size.0 n b (sector_in f h.number.0) _ l (λ m. refl) ∙ ap₂ (λ (u k : ℕ). recount (all_zero (sector_in f u n)) (all_zero b) k) (sym (held_between v h e).0) c.count;
               beyond = λ m i j. of_v m j ∙ ap (λ (x : Bool). cond x b (sector_in f h.number.0 m)) (ne_eqb m n (omega (arith, i, l))) ∙ c.beyond m i j;
             }
@@ -172,7 +189,8 @@ module _ (room : ℕ) (r : Service) (f : ℕ → Block) (p : HasRoom room r f) w
   pub left_room : (s : Served) → Leaves room r f s → HasRoom room s.service (overwritten (changes_of s.change f) f)
   unfolding changes_of overwritten
   left_room s (stays a c) = p
-  left_room s (makes z l m) = make_room z l m
-  left_room s (attaches v h e) = attach_room v h e
+  left_room s (reads v n h e l) = p
+  left_room s (makes z l x y m) = make_room z l x y m
+  left_room s (attaches v h e l) = attach_room v h e l
   left_room s (writes v n b h e l w x) = write_room v n b h e l w x
   left_room s (drops v h e) = drop_room v h e

@@ -1,5 +1,5 @@
 -- What each sector holds after a call: what the volumes in one place leave.
-use Rattle.std.proofs.Common.{◌≡◌, ℕ, suc, ◌+◌, ◌/◌, ◌%◌, ◌<◌, ◌≤◌, Bool, true, false, cond, not, ◌&&◌, ◌||◌, ◌≢◌, List, [], ◌∷◌, ◌++◌, get_or, eqb, leb, sym, refl, ap, ◌∙◌, subst, arith, eqb-true, ne_eqb}
+use Rattle.std.proofs.Common.{◌≡◌, ℕ, ◌<◌, Bool, true, false, cond, not, ◌&&◌, ◌||◌, List, [], ◌∷◌, eqb, leb, refl, ap, ◌∙◌, arith, eqb-true}
 use Rattle.std.proofs.lemmas.Bool.Decides.{nat_tests}
 use Rattle.std.proofs.lemmas.Slice.Eq.{bytes_eq-Decides}
 use Rattle.std.specs.Prelude.{bytes_eq}
@@ -14,8 +14,7 @@ use Rattle.copies.specs.Service.{Change, overwritten}
 use Rattle.served.specs.Blocks.{Block, key_at, sector_in}
 use Rattle.served.specs.Room.{HasRoom}
 use Rattle.served.specs.Served.{changes_of}
-use Rattle.served.proofs.Steps.{Leaves, stays, makes, attaches, writes, drops, dropped}
-use Rattle.served.proofs.Living.{never}
+use Rattle.served.proofs.Steps.{Leaves, stays, reads, makes, attaches, writes, drops}
 use Rattle.served.proofs.Heads.{none_without}
 use Rattle.served.proofs.Writing.{sector-over, sector-held}
 use Rattle.served.proofs.Rooms.{held_below, held_between, held_lives}
@@ -41,8 +40,9 @@ module _ (room : ℕ) (r : Service) (f : ℕ → Block) (p : HasRoom room r f) w
   pub left_sector : (s : Served) → Leaves room r f s → (w m : ℕ) → m < 1099511627776 → is_living s.service.next s.service.heads w ≡ true → sector_in (overwritten (changes_of s.change f) f) w m ≡ changed_by s.change (sector_in f) w m
   unfolding changes_of overwritten
   left_sector s (stays a c) w m k q = refl
-  left_sector s (makes z i j) w m k q = refl
-  left_sector s (attaches v h e) w m k q = refl
+  left_sector s (reads v n h e l) w m k q = refl
+  left_sector s (makes z i j x y) w m k q = refl
+  left_sector s (attaches v h e l) w m k q = refl
   left_sector s (writes v n b h e l i x) w m k q = wrote_sector v n b h e l w m k
   left_sector s (drops v h e) w m k q = by_test (λ (x : List ℕ). sector_in f w m ≡ x) (eqb w v) (λ t. absurd (gone (eqb-true w v t))) (λ _. refl)
     where

@@ -1,19 +1,10 @@
--- What is seen of blocks, by whether they are gone; keys and the sectors in them.
-use Rattle.std.proofs.Common.{◌≡◌, ℕ, ◌<◌, Bool, true, false, cond, ◌⊎◌, sym, ap, ◌∙◌, inl, inr, arith}
+-- What is seen of blocks, by whether they are gone.
+use Rattle.std.proofs.Common.{◌≡◌, ℕ, Bool, true, false, cond, ◌⊎◌, sym, ap, ◌∙◌, inl, inr}
 use mathlib.Core.Path.{fun_ext}
 use Rattle.volumes.specs.Service.{Service}
-use Rattle.served.specs.Blocks.{Block, empty_block, key_of, volume_of, block_of}
+use Rattle.served.specs.Blocks.{Block, empty_block}
 use Rattle.served.specs.Room.{is_gone}
 use Rattle.served.specs.Served.{seen}
-
-pub volume_of-key_of : (v b : ℕ) → b < 137438953472 → volume_of (key_of v b) ≡ v
-volume_of-key_of v b l = omega arith
-
-pub block_of-key_of : (v b : ℕ) → b < 137438953472 → block_of (key_of v b) ≡ b
-block_of-key_of v b l = omega arith
-
-pub key_of-parts : (k : ℕ) → key_of (volume_of k) (block_of k) ≡ k
-key_of-parts k = omega arith
 
 pub seen-living : (r : Service) (f : ℕ → Block) (k : ℕ) → is_gone r k ≡ false → seen r f k ≡ f k
 unfolding seen

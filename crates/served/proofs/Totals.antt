@@ -7,7 +7,7 @@ use Rattle.agreement.proofs.Base.{by_test}
 use Rattle.volumes.specs.declared.head.Head.{Head}
 use Rattle.volumes.specs.Service.{is_head}
 use Rattle.served.specs.Blocks.{key_of, volume_of, block_of}
-use Rattle.served.proofs.Seeing.{key_of-parts}
+use Rattle.served.proofs.Keys.{key_of-parts}
 
 -- SUMS
 abbrev pub total : ℕ → (ℕ → ℕ) → ℕ
@@ -53,7 +53,7 @@ module _ (blocks : ℕ) where
       go true t ih q =
           let key : key_of h.number.0 (block_of k) ≡ k = ap (λ (v : ℕ). key_of v (block_of k)) (sym (eqb-true (volume_of k) h.number.0 t)) ∙ key_of-parts k in
           let less : total blocks (λ b. g (key_of h.number.0 b)) + j (key_of h.number.0 (block_of k)) ≤ total blocks (λ b. j (key_of h.number.0 b)) =
-              total_less blocks (block_of k) (λ b. g (key_of h.number.0 b)) (λ b. j (key_of h.number.0 b)) l (λ b. e (key_of h.number.0 b)) (ap g key ∙ z) in
+          total_less blocks (block_of k) (λ b. g (key_of h.number.0 b)) (λ b. j (key_of h.number.0 b)) l (λ b. e (key_of h.number.0 b)) (ap g key ∙ z) in
           omega (arith, less, ap j key, heads_total-le g j hs e)
       go false t ih q = omega (arith, ih q, total-le blocks (λ b. g (key_of h.number.0 b)) (λ b. j (key_of h.number.0 b)) (λ b. e (key_of h.number.0 b)))
 

@@ -26,7 +26,7 @@ sector-over g v n w m b l k e = by_test (λ (x : Block). get_or x (m % 8) (zeros
         let key : key_at w m ≡ key_at v n = eqb-true (key_at w m) (key_at v n) t in
         on_both (λ (x : List ℕ). get_or (set (g (key_at v n)) (n % 8) b) (m % 8) (zeros 512) ≡ x) (eqb w v) (eqb m n)
         (λ _ q. ap (λ (i : ℕ). get_or (set (g (key_at v n)) (n % 8) b) (i % 8) (zeros 512)) (eqb-true m n q) ∙ get_or-set_same (g (key_at v n)) (n % 8) b (zeros 512) (omega (arith, e)))
-        (λ no'. get_or-set_other (g (key_at v n)) (n % 8) (m % 8) b (zeros 512) (λ i. no' (eq-eqb w v (omega (arith, key))) (eq-eqb m n (omega (arith, key, i)))) ∙ ap (λ (x : ℕ). get_or (g x) (m % 8) (zeros 512)) (sym key))
+        (λ apart. get_or-set_other (g (key_at v n)) (n % 8) (m % 8) b (zeros 512) (λ i. apart (eq-eqb w v (omega (arith, key))) (eq-eqb m n (omega (arith, key, i)))) ∙ ap (λ (x : ℕ). get_or (g x) (m % 8) (zeros 512)) (sym key))
 
     outside : eqb (key_at w m) (key_at v n) ≡ false → sector_in g w m ≡ cond (eqb w v && eqb m n) b (sector_in g w m)
     outside t =

@@ -1,17 +1,17 @@
 -- The service is the volumes in one place, with their sectors; and so it is the meaning, in bytes.
 -- Assumes nothing.
-use Rattle.std.specs.Prelude.{◌≡◌, ℕ, ◌<◌, true, List, T}
-use Rattle.disks.specs.Device.{all_bytes}
-use Rattle.disks.specs.Disks.{State, blank, Reply, No, Answers, core}
-use Rattle.wire.specs.Kinds.{is_built}
-use Rattle.wire.specs.Calls.{Decoded, is_call, is_refused, decoded}
+use Rattle.std.specs.Prelude.{◌≡◌, ℕ, ◌<◌, true, List}
+use Rattle.disks.specs.Disks.{State, blank, Reply, No, Answers, Cut, core}
+use Rattle.disks.specs.Cluster.{Seen, Plain, Waiting, Ready, Linear}
+use Rattle.wire.specs.Calls.{Decoded, is_call, is_refused}
 use Rattle.wire.specs.Answers.{answer_bytes}
 use Rattle.volumes.specs.Service.{Service, blank_service, is_living}
 use Rattle.volumes.specs.Simulation.{Store, blank_store, served_at, store_after, Same}
 use Rattle.copies.specs.Service.{overwritten}
+use Rattle.copies.specs.Promise.{Place, plain}
 use Rattle.served.specs.Blocks.{Block, empty_block, sector_in}
 use Rattle.served.specs.Room.{HasRoom}
-use Rattle.served.specs.Served.{reply_to, next_after, changes_by}
+use Rattle.served.specs.Served.{decoded_call, reply_to, next_after, changes_by, busy_bytes, volume_service}
 
 -- the same heads, and sectors of volumes that live hold the same
 pub record Alike (r : Service) (f : ℕ → Block) (t : Store) : Type 0 where
@@ -31,9 +31,9 @@ left_at room (is_refused n) t = t
 pub record AsOnePlace : Type 0 where
   pub begins : Alike blank_service (λ k. empty_block) blank_store
   pub steps : (room : ℕ) (o : List ℕ) (r : Service) (f : ℕ → Block) (t : Store) → HasRoom room r f → Alike r f t →
-      (reply_to room o r f ≡ answer_at room (decoded is_built o) t) × Alike (next_after room o r f) (overwritten (changes_by room o r f) f) (left_at room (decoded is_built o) t)
+      (reply_to room o r f ≡ answer_at room (decoded_call o) t) × Alike (next_after room o r f) (overwritten (changes_by room o r f) f) (left_at room (decoded_call o) t)
 
--- a state of the meaning and one of the service
+-- THE MEANING. A state of it and one of the service.
 pub record Means (s : State) (r : Service) (f : ℕ → Block) : Type 0 where
   pub store : Store
   pub same : Same s store
@@ -47,5 +47,15 @@ Allowed room (is_refused n) s a u = (a ≡ answer_bytes (No n)) × (u ≡ s)
 -- Any bytes are answered as the meaning allows.
 pub record AsTheMeaning : Type 0 where
   pub begins : Means blank blank_service (λ k. empty_block)
-  pub steps : (room : ℕ) (o : List ℕ) (s : State) (r : Service) (f : ℕ → Block) → T (all_bytes o) → HasRoom room r f → Means s r f →
-      (u : State) × Allowed room (decoded is_built o) s (reply_to room o r f) u × Means u (next_after room o r f) (overwritten (changes_by room o r f) f)
+  pub steps : (room : ℕ) (o : List ℕ) (s : State) (r : Service) (f : ℕ → Block) → HasRoom room r f → Means s r f →
+      (u : State) × Allowed room (decoded_call o) s (reply_to room o r f) u × Means u (next_after room o r f) (overwritten (changes_by room o r f) f)
+
+-- volumes in one place, whose calls and answers are bytes
+abbrev pub meaning : (room : ℕ) → Plain (List ℕ) (List ℕ)
+meaning room = record { State = State; start = blank; Answers = λ o s a u. Allowed room (decoded_call o) s a u; Cut = Cut; busy = busy_bytes }
+
+-- What may be seen of the service may be seen of them, with the same calls waiting, answers ready, falls and cuts.
+abbrev pub SeenAsTheMeaning : Type 0
+SeenAsTheMeaning =
+    (room : ℕ) (es : List (Seen (List ℕ) (List ℕ))) (x : Place (volume_service room)) (ws : List (Waiting (List ℕ))) (rs : List (Ready (List ℕ))) (f c : ℕ) → Linear (plain (volume_service room)) es x ws rs f c →
+    (s : State) × Means s x.rest x.blocks × Linear (meaning room) es s ws rs f c

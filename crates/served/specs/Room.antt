@@ -18,9 +18,10 @@ abbrev pub Rising : (low high : ℕ) → List Head → Type 0
 Rising low high [] = low ≤ high
 Rising low high (h ∷ hs) = (low ≤ h.number.0) × Rising (suc h.number.0) high hs
 
--- A head of at most 2^40 sectors counts those that hold anything; beyond its size there is none.
+-- A head of at most 2^40 sectors, with a token below 2^62, counts the sectors that hold anything; beyond its size there is none.
 pub record Counts (f : ℕ → Block) (h : Head) : Type 0 where
   pub size : h.size.0 ≤ 1099511627776
+  pub token : h.token.0 < 4611686018427387904
   pub count : used h.size.0 (sector_in f h.number.0) ≡ h.used
   pub beyond : (n : ℕ) → h.size.0 ≤ n → n < 1099511627776 → sector_in f h.number.0 n ≡ zeros 512
 
@@ -34,6 +35,8 @@ pub record IsBlock (b : Block) : Type 0 where
   pub whole : All (λ (s : List ℕ). length s ≡ 512) b
 
 pub record HasRoom (room : ℕ) (r : Service) (f : ℕ → Block) : Type 0 where
+  pub few : length r.heads ≤ 4096
+  pub limited : r.next ≤ 4611686018427387904
   pub rising : Rising 1 r.next r.heads
   pub counts : AllCount f r.heads
   pub weight : r.weight ≡ weighs r.heads
