@@ -21,8 +21,9 @@ use Rattle.pieces.proofs.Filling.{fits_stay}
 use Rattle.copies.specs.Service.{Stamped, in_range}
 use Rattle.served.specs.Blocks.{Block, volume_of, block_of}
 use Rattle.served.specs.Room.{is_gone}
+use Rattle.served.proofs.Keys.{volume_of-key_of, block_of-key_of, key_of-parts}
 use Rattle.keeping.specs.Keeping.{key_at, look_held, since_of, stamped, most_listed, portion_held, in_order, filled_with, filled_of, most_emptied, take_held, Good}
-use Rattle.keeping.proofs.Keys.{key_parts, block_small, volume_key, block_key}
+use Rattle.keeping.proofs.Keys.{block_small}
 use Rattle.keeping.proofs.Listed.{listed_each, listed_few, listed_order}
 use Rattle.keeping.proofs.Portions.{listed_says}
 use Rattle.keeping.proofs.Moves.{slot_of, slot_looked_or, eight_looked}
@@ -44,8 +45,8 @@ module _ (size : ℕ) (s : Held) (g : Good size s) where
 
   from_entry : (e : Entry) → e.block.0 < 137438953472 → e.volume.0 ≢ 0 → HasEntry e.volume.0 e.block.0 s.kept → IsFrom s.kept (filled_with (stamped s e))
   from_entry e small used has =
-      let v = volume_key e.volume.0 e.block.0 small in
-      let b = block_key e.volume.0 e.block.0 small in
+      let v = volume_of-key_of e.volume.0 e.block.0 small in
+      let b = block_of-key_of e.volume.0 e.block.0 small in
       record {
         volume = λ z. used (sym v ∙ z);
         entry = λ z. has (subst (λ (n : ℕ). index_of e.volume.0 n s.kept.entries ≡ None) b (subst (λ (n : ℕ). index_of n (block_of (number_of (entry_key e))) s.kept.entries ≡ None) v z));
@@ -76,10 +77,10 @@ module _ (size : ℕ) (s : Held) (g : Good size s) where
         k = number_of (entry_key (get_or s.kept.entries i free_entry))
 
         v : volume_of (number_of (entry_key (get_or s.kept.entries i free_entry))) ≡ (get_or s.kept.entries i free_entry).volume.0
-        v = volume_key (get_or s.kept.entries i free_entry).volume.0 (get_or s.kept.entries i free_entry).block.0 (g.small i)
+        v = volume_of-key_of (get_or s.kept.entries i free_entry).volume.0 (get_or s.kept.entries i free_entry).block.0 (g.small i)
 
         b : block_of (number_of (entry_key (get_or s.kept.entries i free_entry))) ≡ (get_or s.kept.entries i free_entry).block.0
-        b = block_key (get_or s.kept.entries i free_entry).volume.0 (get_or s.kept.entries i free_entry).block.0 (g.small i)
+        b = block_of-key_of (get_or s.kept.entries i free_entry).volume.0 (get_or s.kept.entries i free_entry).block.0 (g.small i)
 
         parts : (not ((get_or s.kept.entries i free_entry).volume.0 == 0) ≡ true) × (is_in (key_at key) (option_map key_at (option_map number_of (listed most_listed (since_of true base) (key_at key) s.kept.entries).next)) (get_or s.kept.entries i free_entry).volume.0 (get_or s.kept.entries i free_entry).block.0 ≡ true)
         parts = and_parts _ _ w
@@ -141,5 +142,5 @@ module _ (size : ℕ) (s : Held) (g : Good size s) where
 
       ordered : in_order key (option_map number_of (listed most_listed (since_of whole base) (key_at key) s.kept.entries).next) (map (stamped s) (listed most_listed (since_of whole base) (key_at key) s.kept.entries).blocks) ≡ true
       ordered =
-          subst (λ (n : ℕ). in_order n (option_map number_of (listed most_listed (since_of whole base) (key_at key) s.kept.entries).next) (map (stamped s) (listed most_listed (since_of whole base) (key_at key) s.kept.entries).blocks) ≡ true) (key_parts key)
+          subst (λ (n : ℕ). in_order n (option_map number_of (listed most_listed (since_of whole base) (key_at key) s.kept.entries).next) (map (stamped s) (listed most_listed (since_of whole base) (key_at key) s.kept.entries).blocks) ≡ true) (key_of-parts key)
           (listed_order (since_of whole base) s.kept.entries g.small s (λ k. look_whole size s k g) most_listed (key_at key) (omega (arith, block_small key)))

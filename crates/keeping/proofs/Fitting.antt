@@ -25,8 +25,9 @@ use Rattle.pieces.proofs.Filling.{fits_stay}
 use Rattle.copies.specs.Service.{Stamped, Portion, in_range}
 use Rattle.served.specs.Blocks.{Block, volume_of, block_of}
 use Rattle.served.specs.Room.{is_gone}
+use Rattle.served.proofs.Keys.{volume_of-key_of, block_of-key_of, key_of-parts}
 use Rattle.keeping.specs.Keeping.{key_at, is_whole, look_held, since_of, stamped, most_listed, portion_held, in_order, filled_with, filled_of, most_emptied, take_held, Good}
-use Rattle.keeping.proofs.Keys.{key_parts, block_small, volume_key, block_key}
+use Rattle.keeping.proofs.Keys.{block_small}
 use Rattle.keeping.proofs.Listed.{listed_each, listed_few, listed_order}
 use Rattle.keeping.proofs.Portions.{find_passes, listed_says}
 use Rattle.keeping.proofs.Moves.{slot_of, slot_looked, eight_looked}

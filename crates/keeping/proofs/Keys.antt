@@ -11,15 +11,6 @@ use Rattle.pieces.proofs.Nearest.{Before, NotBefore, before, not_before}
 use Rattle.served.specs.Blocks.{key_of, volume_of, block_of}
 use Rattle.keeping.specs.Keeping.{key_at}
 
-pub volume_key : (v b : ℕ) → b < 137438953472 → volume_of (key_of v b) ≡ v
-volume_key v b l = omega arith
-
-pub block_key : (v b : ℕ) → b < 137438953472 → block_of (key_of v b) ≡ b
-block_key v b l = omega arith
-
-pub key_parts : (k : ℕ) → key_of (volume_of k) (block_of k) ≡ k
-key_parts k = omega arith
-
 pub block_small : (k : ℕ) → block_of k < 137438953472
 block_small k = omega arith
 

@@ -13,8 +13,9 @@ use Rattle.pieces.specs.Replaces as replaces
 use Rattle.pieces.specs.Replaces.{Held, sets_held}
 use Rattle.served.specs.Blocks.{Block, volume_of, block_of}
 use Rattle.served.specs.Room.{is_gone}
+use Rattle.served.proofs.Keys.{key_of-parts}
 use Rattle.keeping.specs.Keeping.{look_held, Good}
-use Rattle.keeping.proofs.Keys.{key_parts, block_small, has_volume}
+use Rattle.keeping.proofs.Keys.{block_small, has_volume}
 use Rattle.keeping.proofs.Sets.{SetsHeld, sets_means}
 
 -- a slot of a block, and the block's age
@@ -110,7 +111,7 @@ module _ (w : ℕ) (F : ℕ → ℕ → List ℕ) where
                 of zero f = absurd (nz f)
                 of (suc u) f =
                     ap (λ (u : ℕ). shown m.data' m.kept u (8 * block_of k + i)) f
-                    ∙ y.others u (8 * block_of k + i) (λ z. o (omega (arith, z.0, z.1, f, q, l, few, key_parts k, key_parts k0), omega (arith, z.1, l, few)))
+                    ∙ y.others u (8 * block_of k + i) (λ z. o (omega (arith, z.0, z.1, f, q, l, few, key_of-parts k, key_of-parts k0), omega (arith, z.1, l, few)))
                     ∙ sym (ap (λ (u : ℕ). shown x.data' x.kept u (8 * block_of k + i)) f)
 
             toward : (k i : ℕ) → volume_of k ≢ 0 → i < 8 → (slot_of m k i ≡ slot_of x k i) ⊎ (slot_of m k i ≡ F k i)
@@ -131,4 +132,4 @@ module _ (w : ℕ) (F : ℕ → ℕ → List ℕ) where
                     inr
                     (λ i l. other k i nz l (λ z. f z.0),
                     subst (λ (u : ℕ). age_of u (block_of k) x.kept ≤ age_of u (block_of k) m.kept) (sym g)
-                    (y.aged u (block_of k) (λ z. f (omega (arith, z.0, z.1, g, q, at_block, key_parts k, key_parts k0)))))
+                    (y.aged u (block_of k) (λ z. f (omega (arith, z.0, z.1, g, q, at_block, key_of-parts k, key_of-parts k0)))))

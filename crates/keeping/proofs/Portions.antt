@@ -20,8 +20,9 @@ use Rattle.pieces.proofs.ListMeaning.{list_means}
 use Rattle.pieces.proofs.ListEnding.{list_ends}
 use Rattle.copies.specs.Service.{Stamped, in_range, lookup}
 use Rattle.served.specs.Blocks.{Block, empty_block, volume_of, block_of}
+use Rattle.served.proofs.Keys.{volume_of-key_of, block_of-key_of, key_of-parts}
 use Rattle.keeping.specs.Keeping.{key_at, look_held, stamp_held, since_of, stamped, most_listed, portion_held, Good}
-use Rattle.keeping.proofs.Keys.{key_parts, block_small, volume_key, block_key, before_number, not_below, iff_same}
+use Rattle.keeping.proofs.Keys.{block_small, before_number, not_below, iff_same}
 use Rattle.keeping.proofs.Listed.{listed_each, listed_next}
 
 -- RANGES
@@ -40,12 +41,12 @@ key_test k e l = iff_same (k == number_of (entry_key e)) (is_block (volume_of k)
     there : (k == number_of (entry_key e)) ≡ true → is_block (volume_of k) (block_of k) e ≡ true
     there t =
         let same = eqb-true k (number_of (entry_key e)) t in
-        and_from _ _ (eq-eqb e.volume.0 (volume_of k) (sym (volume_key e.volume.0 e.block.0 l) ∙ ap volume_of (sym same))) (eq-eqb e.block.0 (block_of k) (sym (block_key e.volume.0 e.block.0 l) ∙ ap block_of (sym same)))
+        and_from _ _ (eq-eqb e.volume.0 (volume_of k) (sym (volume_of-key_of e.volume.0 e.block.0 l) ∙ ap volume_of (sym same))) (eq-eqb e.block.0 (block_of k) (sym (block_of-key_of e.volume.0 e.block.0 l) ∙ ap block_of (sym same)))
 
     back : is_block (volume_of k) (block_of k) e ≡ true → (k == number_of (entry_key e)) ≡ true
     back t =
         let p = and_parts (e.volume.0 == volume_of k) (e.block.0 == block_of k) t in
-        eq-eqb k (number_of (entry_key e)) (omega (arith, key_parts k, eqb-true e.volume.0 (volume_of k) p.0, eqb-true e.block.0 (block_of k) p.1))
+        eq-eqb k (number_of (entry_key e)) (omega (arith, key_of-parts k, eqb-true e.volume.0 (volume_of k) p.0, eqb-true e.block.0 (block_of k) p.1))
 
 pub lookup_listed : (h : Held) (es : List Entry) (k : ℕ) → AllByRecursion (λ (e : Entry). e.block.0 < 137438953472) es → lookup k (map (stamped h) es) ≡ option_map (stamped h) (find (is_block (volume_of k) (block_of k)) es)
 unfolding lookup
@@ -86,7 +87,7 @@ says_of : (whole : Bool) (base k : ℕ) (h : Held) (o : Option Entry) → ((e : 
 unfolding stamp_held
 says_of whole base k h (Some e) f x =
     let p = and_parts (e.volume.0 == volume_of k) (e.block.0 == block_of k) (f e refl) in
-    let num : number_of (entry_key e) ≡ k = omega (arith, key_parts k, eqb-true e.volume.0 (volume_of k) p.0, eqb-true e.block.0 (block_of k) p.1) in
+    let num : number_of (entry_key e) ≡ k = omega (arith, key_of-parts k, eqb-true e.volume.0 (volume_of k) p.0, eqb-true e.block.0 (block_of k) p.1) in
     (ap (look_held h) num, ap (λ (z : Entry). z.stamp.0) x ∙ sym (stamp_looked (volume_of k) (block_of k) h.kept))
 says_of true base k h None f x = (empty_where_free h k x, omega (arith, stamp_looked (volume_of k) (block_of k) h.kept, ap (λ (z : Entry). z.stamp.0) x))
 says_of false base k h None f x = x
@@ -117,13 +118,13 @@ module _ (size : ℕ) (h : Held) (g : Good size h) where
   listed_says whole base key k used inside = of (volume_of k) refl
     where
       behind : is_before (key_at k) (key_at key) ≡ false
-      behind = before_number (key_at k) (key_at key) (block_small k) (omega (arith, block_small key)) ∙ not_below (number_of (key_at k)) (number_of (key_at key)) (omega (arith, key_parts k, key_parts key, in_low key k _ inside))
+      behind = before_number (key_at k) (key_at key) (block_small k) (omega (arith, block_small key)) ∙ not_below (number_of (key_at k)) (number_of (key_at key)) (omega (arith, key_of-parts k, key_of-parts key, in_low key k _ inside))
 
       below : (o : Option Key) → (listed most_listed (since_of whole base) (key_at key) h.kept.entries).next ≡ o → in_range key (option_map number_of o) k ≡ true → is_below (key_at k) o ≡ true
       below None e i = refl
       below (Some to) e i =
           let b = listed_next (since_of whole base) h.kept.entries g.small most_listed (key_at key) to (omega (arith, block_small key)) e in
-          before_number (key_at k) to (block_small k) b.0 ∙ lt-ltb (number_of (key_at k)) (number_of to) (omega (arith, key_parts k, in_high key k (number_of to) _ i refl))
+          before_number (key_at k) to (block_small k) b.0 ∙ lt-ltb (number_of (key_at k)) (number_of to) (omega (arith, key_of-parts k, in_high key k (number_of to) _ i refl))
 
       of : (v : ℕ) → volume_of k ≡ v → Says (since_of whole base) h.kept (volume_of k) (block_of k) (find (is_block (volume_of k) (block_of k)) (listed most_listed (since_of whole base) (key_at key) h.kept.entries).blocks)
       of zero e = absurd (used e)
@@ -159,6 +160,6 @@ module _ (size : ℕ) (h : Held) (g : Good size h) where
           count_same (is_left (key_at n)) (is_left to) h.kept.entries
           (λ i. ap (λ (t : Bool). not ((get_or h.kept.entries i free_entry).volume.0 == 0) && not t)
           (before_number (entry_key (get_or h.kept.entries i free_entry)) (key_at n) (g.small i) (omega (arith, block_small n))
-          ∙ ap (λ (m : ℕ). ltb (number_of (entry_key (get_or h.kept.entries i free_entry))) m) (key_parts n ∙ sym same)
+          ∙ ap (λ (m : ℕ). ltb (number_of (entry_key (get_or h.kept.entries i free_entry))) m) (key_of-parts n ∙ sym same)
           ∙ sym (before_number (entry_key (get_or h.kept.entries i free_entry)) to (g.small i) b.0))) in
           omega (arith, alike, list_ends 15 (since_of whole base) (key_at key) to h.kept small64 q)

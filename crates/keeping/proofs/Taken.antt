@@ -13,8 +13,9 @@ use Rattle.pieces.specs.Replaces.{Held, Filled, replaces, is_filled, is_in, IsWh
 use Rattle.copies.specs.Service.{Stamped, in_range, lookup}
 use Rattle.served.specs.Blocks.{Block, empty_block, volume_of, block_of}
 use Rattle.served.specs.Room.{is_gone}
+use Rattle.served.proofs.Keys.{key_of-parts}
 use Rattle.keeping.specs.Keeping.{key_at, is_whole, look_held, in_order, filled_with, filled_of, most_emptied, take_held, Good}
-use Rattle.keeping.proofs.Keys.{key_parts, block_small, before_number, not_below, iff_same, has_volume}
+use Rattle.keeping.proofs.Keys.{block_small, before_number, not_below, iff_same, has_volume}
 use Rattle.keeping.proofs.Portions.{in_low, in_high}
 use Rattle.keeping.proofs.Moves.{slot_of, age_at, looks_as, slot_looked, eight_looked}
 use Rattle.keeping.proofs.Taking.{take_parts}
@@ -29,7 +30,7 @@ at_or_behind key k =
   where
     number : is_before (key_at k) (key_at key) ≡ ltb k key
     number =
-        before_number (key_at k) (key_at key) (block_small k) (omega (arith, block_small key)) ∙ ap (λ (n : ℕ). ltb n (number_of (key_at key))) (key_parts k) ∙ ap (λ (n : ℕ). ltb k n) (key_parts key)
+        before_number (key_at k) (key_at key) (block_small k) (omega (arith, block_small key)) ∙ ap (λ (n : ℕ). ltb n (number_of (key_at key))) (key_of-parts k) ∙ ap (λ (n : ℕ). ltb k n) (key_of-parts key)
 
 pub range_same : (key : ℕ) (next : Option ℕ) (k : ℕ) → in_range key next k ≡ is_in (key_at key) (option_map key_at next) (volume_of k) (block_of k)
 range_same key None k = at_or_behind key k ∙ sym (true_right (not (is_before (key_at k) (key_at key))))
@@ -40,7 +41,7 @@ range_same key None k = at_or_behind key k ∙ sym (true_right (not (is_before (
 range_same key (Some n) k =
     ap (λ (b : Bool). b && nat_lt k n) (at_or_behind key k)
     ∙ ap (λ (b : Bool). not (is_before (key_at k) (key_at key)) && b)
-    (sym (before_number (key_at k) (key_at n) (block_small k) (omega (arith, block_small n)) ∙ ap (λ (m : ℕ). ltb m (number_of (key_at n))) (key_parts k) ∙ ap (λ (m : ℕ). ltb k m) (key_parts n)))
+    (sym (before_number (key_at k) (key_at n) (block_small k) (omega (arith, block_small n)) ∙ ap (λ (m : ℕ). ltb m (number_of (key_at n))) (key_of-parts k) ∙ ap (λ (m : ℕ). ltb k m) (key_of-parts n)))
 
 lower : (key' key k : ℕ) (next : Option ℕ) → key ≤ key' → in_range key' next k ≡ true → in_range key next k ≡ true
 lower key' key k None l e = le-leb key k (omega (arith, l, leb-true key' k e))
@@ -78,7 +79,7 @@ module _ (r : Service) where
       there : is_filled (volume_of k) (block_of k) (filled_with b) ≡ true → (k == b.key) ≡ true
       there t =
           let p = and_parts (volume_of b.key == volume_of k) (block_of b.key == block_of k) t in
-          eq-eqb k b.key (omega (arith, key_parts k, key_parts b.key, eqb-true (volume_of b.key) (volume_of k) p.0, eqb-true (block_of b.key) (block_of k) p.1))
+          eq-eqb k b.key (omega (arith, key_of-parts k, key_of-parts b.key, eqb-true (volume_of b.key) (volume_of k) p.0, eqb-true (block_of b.key) (block_of k) p.1))
 
       back : (k == b.key) ≡ true → is_filled (volume_of k) (block_of k) (filled_with b) ≡ true
       back t =

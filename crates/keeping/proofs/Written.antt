@@ -21,8 +21,9 @@ use Rattle.copies.specs.Service.{Change, overwritten}
 use Rattle.served.specs.Blocks.{Block, key_of, volume_of, block_of}
 use Rattle.served.specs.Room.{is_gone, HasRoom, IsBlock}
 use Rattle.served.proofs.Bounds.{room_bounds}
+use Rattle.served.proofs.Keys.{volume_of-key_of, block_of-key_of}
 use Rattle.keeping.specs.Keeping.{is_whole, look_held, tidied_held, due, writes_all, write_held, Good}
-use Rattle.keeping.proofs.Keys.{has_volume, volume_key, block_key}
+use Rattle.keeping.proofs.Keys.{has_volume}
 use Rattle.keeping.proofs.Moves.{slot_of, age_at, slot_looked, eight_looked, looks_as, Fine, Moves, moves_on}
 use Rattle.keeping.proofs.Writing.{Passed, all_passed}
 use Rattle.keeping.proofs.Due.{changes_key, untouched, due_aims, due_covers}
@@ -142,7 +143,7 @@ module _ (size : ℕ) (r : Service) (w : ℕ) (cs : List (Change Block)) (h : He
       where
         lives : (j q : ℕ) → (entry_at j y.kept).volume.0 ≢ 0 → q ≡ number_of (entry_key (entry_at j y.kept)) → is_gone r q ≡ false
         lives j q u e =
-            let v : volume_of q ≡ (entry_at j y.kept).volume.0 = ap volume_of e ∙ volume_key (entry_at j y.kept).volume.0 (entry_at j y.kept).block.0 (fine.good.small j) in
+            let v : volume_of q ≡ (entry_at j y.kept).volume.0 = ap volume_of e ∙ volume_of-key_of (entry_at j y.kept).volume.0 (entry_at j y.kept).block.0 (fine.good.small j) in
             ap (λ (n : ℕ). not (is_living r.next r.heads n)) v ∙ of (and_cases _ _ (fine.lives j))
           where
             of : (not ((entry_at j y.kept).volume.0 == 0) ≡ false) ⊎ (not (is_living r.next r.heads (entry_at j y.kept).volume.0) ≡ false) → not (is_living r.next r.heads (entry_at j y.kept).volume.0) ≡ false
@@ -155,8 +156,8 @@ module _ (size : ℕ) (r : Service) (w : ℕ) (cs : List (Change Block)) (h : He
         below : (j : ℕ) → (entry_at j y.kept).volume.0 ≢ 0 → used_of y.data' y.kept (entry_key (entry_at j y.kept)) ≤ filled (overwritten cs (look_held h) (number_of (entry_key (entry_at j y.kept))))
         below j u =
             let e = entry_at j y.kept in
-            let v = volume_key e.volume.0 e.block.0 (fine.good.small j) in
-            let b = block_key e.volume.0 e.block.0 (fine.good.small j) in
+            let v = volume_of-key_of e.volume.0 e.block.0 (fine.good.small j) in
+            let b = block_of-key_of e.volume.0 e.block.0 (fine.good.small j) in
             let same : filled (block_shown y.data' y.kept e.volume.0 e.block.0) ≡ filled (look_held y (number_of (entry_key e))) = rw (v, b) refl in
             omega (arith, held_by_numbers.filled_used e.volume.0 e.block.0 y.data' y.kept, same, fewer y m (number_of (entry_key e)) (lives j (number_of (entry_key e)) u refl))
 
