@@ -9,7 +9,8 @@ use Rattle.pieces.specs.declared.changed.Key.{Key}
 use Rattle.pieces.specs.Meaning.{shown, age_of}
 use Rattle.pieces.specs.Changes.{is_before, is_below}
 use Rattle.pieces.specs.Counts.{number_of}
-use Rattle.pieces.specs.Replaces.{Held, Filled, replaces, is_filled, is_in, IsWhole, AreWhole, Stays, Replaced, ReplaceMeans}
+use Rattle.pieces.specs.Replaces.{Held, Filled, replaces, is_filled, is_in, IsWhole, AreWhole, Stays, Replaced}
+use Rattle.pieces.proofs.ReplaceMeaning.{replace_means}
 use Rattle.copies.specs.Service.{Stamped, in_range, lookup}
 use Rattle.served.specs.Blocks.{Block, empty_block, volume_of, block_of}
 use Rattle.served.specs.Room.{is_gone}
@@ -135,12 +136,12 @@ empty_looks h k at = rw (at 0 (omega arith), at 1 (omega arith), at 2 (omega ari
 pub looks_same : (h m : Held) (k : ℕ) → ((i : ℕ) → i < 8 → slot_of m k i ≡ slot_of h k i) → look_held m k ≡ look_held h k
 looks_same h m k f = looks_as m k (look_held h k) (eight_looked h k) (λ i l. f i l ∙ sym (slot_looked h k i l))
 
-module _ (means : ReplaceMeans) (size : ℕ) (r : Service) (whole : Bool) (key : ℕ) (next : Option ℕ) (floor : ℕ) (bs : List (Stamped Block)) (h m : Held) (g : Good size h) (took : take_held r whole key next floor bs h ≡ Some m) where
+module _ (size : ℕ) (r : Service) (whole : Bool) (key : ℕ) (next : Option ℕ) (floor : ℕ) (bs : List (Stamped Block)) (h m : Held) (g : Good size h) (took : take_held r whole key next floor bs h ≡ Some m) where
   ordered : in_order key next bs ≡ true
   ordered = (take_parts r whole key next floor bs h m took).0
 
   x : Replaced size (key_at key) (option_map key_at next) whole floor (filled_of r bs) h m
-  x = means size (key_at key) (option_map key_at next) whole most_emptied floor (filled_of r bs) h m g.sound (are_whole r key next bs key (omega arith) ordered) (take_parts r whole key next floor bs h m took).1
+  x = replace_means size (key_at key) (option_map key_at next) whole most_emptied floor (filled_of r bs) h m g.sound (are_whole r key next bs key (omega arith) ordered) (take_parts r whole key next floor bs h m took).1
 
   -- a block that stays
   stays : (k u : ℕ) → volume_of k ≡ suc u → Stays (suc u) (block_of k) h m → (look_held m k ≡ look_held h k) × (age_at h k ≤ age_at m k)

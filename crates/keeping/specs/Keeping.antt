@@ -1,6 +1,6 @@
 -- How a house keeps blocks on its directory: what is done to what is kept, with what the places of data hold.
 -- Assumes nothing.
-use Rattle.std.specs.Prelude.{◌≡◌, ℕ, zero, suc, ◌+◌, ◌*◌, ◌<◌, Bool, true, false, cond, not, ◌&&◌, ◌||◌, List, [], ◌∷◌, length, map, ◌==◌, Some, None, Option, bytes_eq, eqb}
+use Rattle.std.specs.Prelude.{◌≡◌, ℕ, suc, ◌+◌, ◌*◌, ◌<◌, Bool, true, false, cond, not, ◌&&◌, List, [], ◌∷◌, length, map, ◌==◌, Some, None, Option, bytes_eq}
 use Rattle.std.specs.List.{list_all, list_any}
 use Rattle.std.specs.Option.{option_map}
 use Rattle.disks.specs.Device.{zeros}
@@ -110,14 +110,10 @@ most_emptied = 256
 unfoldable pub take_held : Service → (whole : Bool) → (key : ℕ) → (next : Option ℕ) → (floor : ℕ) → List (Stamped Block) → Held → Option Held
 take_held r whole key next floor bs h = cond (in_order key next bs) (replaces (key_at key) (option_map key_at next) whole most_emptied floor (filled_of r bs) h) None
 
--- WHAT ALWAYS HOLDS
+-- WHAT ALWAYS HOLDS: the directory is sound, its entries are of blocks of volumes and hold no zeros, and each place has 512 bytes.
 pub record Good (size : ℕ) (h : Held) : Type 0 where
   pub sound : Sound size h.kept
   pub clean : Clean h.kept
   pub blanks : NoBlanks h.data' h.kept
   pub small : (i : ℕ) → (entry_at i h.kept).block.0 < 137438953472
   pub whole : (p : ℕ) → length (h.data' p) ≡ 512
-
-pub record Keeping (size : ℕ) : Type 0 where
-  pub held : Held
-  pub good : Good size held
