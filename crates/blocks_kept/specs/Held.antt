@@ -1,4 +1,4 @@
--- Statements that lie above Type 0, which a contract can't hold, as types that can: that there is this proof of one.
+-- A statement that lies above Type 0, which a contract can't hold, as a type that can: that there is this proof of it.
 use Rattle.composed.specs.Held.{Shown}
 use Rattle.keeping.specs.Keeper.{KeeperKeeps}
 use Rattle.keeping.proofs.Keeper.{keeper_keeps}

@@ -104,7 +104,7 @@ module _ (size room : ℕ) (stays : StaysGood size) where
 
 pub keeper_keeps : KeeperKeeps
 unfolding stamp_held
-keeper_keeps size room stays fits = record {
+keeper_keeps size room stays fits = (record {
   none_empty = none_looks size;
   write_look = λ r w cs s k has alive. write_looks size r w cs s.held s.good room has fits k alive;
   write_age = λ r w cs s k has alive. write_ages size r w cs s.held s.good room has fits k alive;
@@ -119,4 +119,4 @@ keeper_keeps size room stays fits = record {
   Fit = λ r s t. Within s.held.kept t.held.kept × EntriesWithin s.held.kept t.held.kept;
   fit_none = λ r s. (blank_within size s.held.kept, blank_entries size s.held.kept);
   fit_take = fit_take size room stays;
-}
+}, refl)

@@ -5,7 +5,7 @@ use Rattle.std.specs.Option.{option_map}
 use Rattle.volumes.specs.Service.{Service}
 use Rattle.volumes.specs.Simulation.{room_left}
 use Rattle.copies.specs.Service.{Service as Replicated, Change, Stamped, Keeper, Keeps}
-use Rattle.pieces.specs.Layouts.{places_of}
+use Rattle.pieces.specs.Layouts.{places_of, entries_of}
 use Rattle.pieces.specs.Replaces.{Held}
 use Rattle.served.specs.Blocks.{Block}
 use Rattle.served.specs.Served.{volume_service}
@@ -70,9 +70,10 @@ pub record DoesAs {O R : Type 0} {sv : Replicated O R} (kp lq : Keeper sv) (bare
 abbrev pub DoesAsBare : Type 0
 DoesAsBare = (size room : ℕ) (stays : StaysGood size) → DoesAs (keeper size room stays) (bare_keeper size room) (λ s. s.held)
 
--- It meets the laws, if there are more places than there is room for; on each device there are.
+-- It meets the laws, if there are more places than there is room for; on each device there are. A pass has at most as many parts as there
+-- are entries.
 abbrev pub KeeperKeeps : Type 1
-KeeperKeeps = (size room : ℕ) (stays : StaysGood size) → room < places_of size → Keeps (volume_service room) (keeper size room stays)
+KeeperKeeps = (size room : ℕ) (stays : StaysGood size) → room < places_of size → (keeps : Keeps (volume_service room) (keeper size room stays)) × (keeps.most ≡ entries_of size)
 
 abbrev pub RoomFits : Type 0
 RoomFits = (size : ℕ) → 65536 ≤ size → room_left size < places_of size
