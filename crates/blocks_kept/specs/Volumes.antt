@@ -1,6 +1,6 @@
 -- What is promised of houses with three copies of the volumes, whose blocks lie on a directory: what is promised for every service and keeper.
 -- Assumes nothing.
-use Rattle.std.specs.Prelude.{ℕ, ◌≤◌, List}
+use Rattle.std.specs.Prelude.{ℕ, ◌≤◌}
 use Rattle.compose.specs.Pure.{PureAsOne, PureAnswersWithin}
 use Rattle.copies.specs.House.{Guard, replicated}
 use Rattle.copies.specs.Admits.{admits}

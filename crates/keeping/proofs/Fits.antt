@@ -1,32 +1,31 @@
 -- What has a portion in it that the other has fits: it is in order, and there is room for it.
-use Rattle.std.proofs.Common.{◌≡◌, ◌≢◌, ◌⊎◌, inl, inr, ℕ, zero, suc, ◌+◌, ◌*◌, ◌/◌, ◌%◌, ◌<◌, ◌≤◌, Bool, true, false, cond, not, ◌&&◌, ◌==◌, List, [], ◌∷◌, length, map, get_or, Some, None, Option, option_map, find, refl, sym, ap, ◌∙◌, subst, arith, eq-eqb}
-use Rattle.std.specs.List.{All, AllByRecursion, count_by, list_any}
+use Rattle.std.proofs.Common.{◌≡◌, ◌≢◌, ◌⊎◌, inl, inr, ℕ, zero, suc, ◌<◌, ◌≤◌, Bool, true, false, cond, not, ◌==◌, List, [], ◌∷◌, length, map, get_or, Some, None, Option, option_map, find, refl, sym, ap, ◌∙◌, subst, arith, eq-eqb}
+use Rattle.std.specs.List.{AllByRecursion, count_by, list_any}
 use Rattle.std.proofs.lemmas.Bool.{and_from, and_parts, not-true, eqb-false, cases_lt}
 use Rattle.std.proofs.lemmas.List.{get_or_past}
 use Rattle.disks.specs.Device.{zeros}
 use Rattle.disks.specs.Disks.{all_zero}
 use Rattle.volumes.specs.Service.{Service}
 use Rattle.pieces.specs.declared.entry.Entry.{Entry}
-use Rattle.pieces.specs.declared.changed.Key.{Key}
 use Rattle.pieces.specs.Entries.{is_block, free_entry}
-use Rattle.pieces.specs.Kept.{Kept, entry_at, index_of, place_of}
+use Rattle.pieces.specs.Kept.{index_of}
 use Rattle.pieces.specs.Meaning.{look_in, content}
-use Rattle.pieces.specs.Changes.{entry_key, is_before, is_below, listed, Says}
+use Rattle.pieces.specs.Changes.{entry_key, listed, Says}
 use Rattle.pieces.specs.Ranges.{is_within}
 use Rattle.pieces.specs.Counts.{number_of}
 use Rattle.pieces.specs.Fits.{HasEntry, FitsIn, IsFrom}
-use Rattle.pieces.specs.Replaces.{Held, Filled, is_in, replaces}
+use Rattle.pieces.specs.Replaces.{Held, is_in, replaces}
 use Rattle.pieces.proofs.Counting.{only_first, none_of}
 use Rattle.pieces.proofs.Filling.{fits_stay}
-use Rattle.copies.specs.Service.{Stamped, in_range}
-use Rattle.served.specs.Blocks.{Block, volume_of, block_of}
+use Rattle.copies.specs.Service.{in_range}
+use Rattle.served.specs.Blocks.{volume_of, block_of}
 use Rattle.served.specs.Room.{is_gone}
 use Rattle.served.proofs.Keys.{volume_of-key_of, block_of-key_of, key_of-parts}
-use Rattle.keeping.specs.Keeping.{key_at, look_held, since_of, stamped, most_listed, portion_held, in_order, filled_with, filled_of, most_emptied, take_held, Good}
+use Rattle.keeping.specs.Keeping.{key_at, since_of, stamped, most_listed, portion_held, in_order, filled_with, filled_of, most_emptied, take_held, Good}
 use Rattle.keeping.proofs.Keys.{block_small}
 use Rattle.keeping.proofs.Listed.{listed_each, listed_few, listed_order}
 use Rattle.keeping.proofs.Portions.{listed_says}
-use Rattle.keeping.proofs.Moves.{slot_of, slot_looked_or, eight_looked}
+use Rattle.keeping.proofs.Moves.{slot_looked_or, eight_looked}
 use Rattle.keeping.proofs.Taken.{range_same}
 use Rattle.keeping.proofs.Fitting.{all_from, are_zeros, look_whole, among_few, count_less, found_among}
 
@@ -40,6 +39,7 @@ module _ (size : ℕ) (s : Held) (g : Good size s) where
       clash (sym (none_of (is_block (get_or s.kept.entries i free_entry).volume.0 (get_or s.kept.entries i free_entry).block.0) s.kept.entries free_entry none i l)
       ∙ and_from _ _ (eq-eqb (get_or s.kept.entries i free_entry).volume.0 (get_or s.kept.entries i free_entry).volume.0 refl) (eq-eqb (get_or s.kept.entries i free_entry).block.0 (get_or s.kept.entries i free_entry).block.0 refl))
 
+  -- an entry that is used, of a small number
   abbrev Used : Entry → Type 0
   Used e = (e.block.0 < 137438953472) × (e.volume.0 ≢ 0) × HasEntry e.volume.0 e.block.0 s.kept
 
@@ -54,7 +54,7 @@ module _ (size : ℕ) (s : Held) (g : Good size s) where
         held = λ i l nz z. clash (sym nz ∙ ap all_zero (slot_looked_or (zeros 512) s (number_of (entry_key e)) i (omega (arith, l, eight_looked s (number_of (entry_key e)))) ∙ ap (content s.data') z) ∙ (are_zeros 512).0);
       }
 
-  all_used : (q : Service) (es : List Entry) → AllByRecursion (λ (e : Entry). (e.block.0 < 137438953472) × (e.volume.0 ≢ 0) × HasEntry e.volume.0 e.block.0 s.kept) es → AllByRecursion (IsFrom s.kept) (filled_of q (map (stamped s) es))
+  all_used : (q : Service) (es : List Entry) → AllByRecursion Used es → AllByRecursion (IsFrom s.kept) (filled_of q (map (stamped s) es))
   unfolding filled_of
   all_used q [] a = tt
   all_used q (e ∷ es) a = go (is_gone q (number_of (entry_key e))) (all_used q es a.1) (from_entry e a.0.0 a.0.1 a.0.2)
@@ -70,9 +70,6 @@ module _ (size : ℕ) (s : Held) (g : Good size s) where
     unfolding is_within
     within_listed i w = go (cases_lt i (length s.kept.entries))
       where
-        e : Entry
-        e = get_or s.kept.entries i free_entry
-
         k : ℕ
         k = number_of (entry_key (get_or s.kept.entries i free_entry))
 
@@ -112,11 +109,13 @@ module _ (size : ℕ) (s : Held) (g : Good size s) where
 
     few_within : count_by (is_within (key_at key) (option_map key_at (option_map number_of (listed most_listed (since_of true base) (key_at key) s.kept.entries).next))) s.kept.entries ≤ most_emptied
     few_within =
-        let ls = (listed most_listed (since_of true base) (key_at key) s.kept.entries).blocks in
-        omega (arith, listed_few (since_of true base) s.kept.entries g.small most_listed (key_at key),
-        among_few (listed most_listed (since_of true base) (key_at key) s.kept.entries).blocks s.kept.entries (listed_each (since_of true base) s.kept.entries g.small (λ (y : Entry). count_by (is_block y.volume.0 y.block.0) s.kept.entries ≤ 1) single most_listed (key_at key) (omega (arith, block_small key))),
-        count_less (is_within (key_at key) (option_map key_at (option_map number_of (listed most_listed (since_of true base) (key_at key) s.kept.entries).next)))
-        (λ (e : Entry). list_any (λ (y : Entry). is_block y.volume.0 y.block.0 e) (listed most_listed (since_of true base) (key_at key) s.kept.entries).blocks) s.kept.entries within_listed)
+        omega (
+          arith,
+          listed_few (since_of true base) s.kept.entries g.small most_listed (key_at key),
+          among_few (listed most_listed (since_of true base) (key_at key) s.kept.entries).blocks s.kept.entries (listed_each (since_of true base) s.kept.entries g.small (λ (y : Entry). count_by (is_block y.volume.0 y.block.0) s.kept.entries ≤ 1) single most_listed (key_at key) (omega (arith, block_small key))),
+          count_less (is_within (key_at key) (option_map key_at (option_map number_of (listed most_listed (since_of true base) (key_at key) s.kept.entries).next)))
+              (λ (e : Entry). list_any (λ (y : Entry). is_block y.volume.0 y.block.0 e) (listed most_listed (since_of true base) (key_at key) s.kept.entries).blocks) s.kept.entries within_listed,
+        )
       where
         single : (i : ℕ) → i < length s.kept.entries → (get_or s.kept.entries i free_entry).volume.0 ≢ 0 → count_by (is_block (get_or s.kept.entries i free_entry).volume.0 (get_or s.kept.entries i free_entry).block.0) s.kept.entries ≤ 1
         single i l u = of (get_or s.kept.entries i free_entry).volume.0 u
@@ -137,7 +136,7 @@ module _ (size : ℕ) (s : Held) (g : Good size s) where
       a : (m : Held) × (replaces (key_at key) (option_map key_at (option_map number_of (listed most_listed (since_of whole base) (key_at key) s.kept.entries).next)) whole most_emptied s.kept.floor (filled_of q (map (stamped s) (listed most_listed (since_of whole base) (key_at key) s.kept.entries).blocks)) t ≡ Some m) × FitsIn size s.kept m
       a =
           fits_stay.range size most_emptied s.kept.floor (key_at key) (option_map key_at (option_map number_of (listed most_listed (since_of whole base) (key_at key) s.kept.entries).next)) whole (filled_of q (map (stamped s) (listed most_listed (since_of whole base) (key_at key) s.kept.entries).blocks)) s.kept t g.sound fit
-          (all_from (IsFrom s.kept) _ (all_used q (listed most_listed (since_of whole base) (key_at key) s.kept.entries).blocks (listed_each (since_of whole base) s.kept.entries g.small (λ (e : Entry). (e.block.0 < 137438953472) × (e.volume.0 ≢ 0) × HasEntry e.volume.0 e.block.0 s.kept) (λ i l u. (g.small i, u, has_entry i l)) most_listed (key_at key) (omega (arith, block_small key)))))
+          (all_from (IsFrom s.kept) _ (all_used q (listed most_listed (since_of whole base) (key_at key) s.kept.entries).blocks (listed_each (since_of whole base) s.kept.entries g.small Used (λ i l u. (g.small i, u, has_entry i l)) most_listed (key_at key) (omega (arith, block_small key)))))
           (few whole)
 
       ordered : in_order key (option_map number_of (listed most_listed (since_of whole base) (key_at key) s.kept.entries).next) (map (stamped s) (listed most_listed (since_of whole base) (key_at key) s.kept.entries).blocks) ≡ true

@@ -1,36 +1,24 @@
 -- From nothing, what another has is taken over whole: what was taken so far holds nothing that the other doesn't.
-use Rattle.std.proofs.Common.{◌≡◌, ◌≢◌, ◌⊎◌, inl, inr, ℕ, zero, suc, ◌+◌, ◌*◌, ◌/◌, ◌%◌, ◌<◌, ◌≤◌, Bool, true, false, cond, not, ◌&&◌, ◌||◌, ◌==◌, List, [], ◌∷◌, length, map, replicate, get_or, Some, None, Option, option_map, find, refl, sym, ap, ◌∙◌, subst, arith, eqb-true, eq-eqb, slice_index_or}
-use Rattle.std.specs.List.{All, AllByRecursion, count_by, sum_by, list_any, list_all}
-use Rattle.std.proofs.lemmas.Bool.{and_from, and_parts, not-true, eqb-false, cases_lt}
+use Rattle.std.proofs.Common.{◌≡◌, ℕ, zero, suc, ◌+◌, ◌*◌, ◌/◌, ◌%◌, ◌≤◌, Bool, true, false, cond, ◌||◌, ◌==◌, List, [], ◌∷◌, length, get_or, Some, None, Option, find, refl, sym, ap, ◌∙◌, arith, eqb-true, eq-eqb}
+use Rattle.std.specs.List.{All, AllByRecursion, count_by, list_any}
+use Rattle.std.proofs.lemmas.Bool.{and_parts}
 use Rattle.std.proofs.lemmas.List.Sums.{sum_by-cons}
 use Rattle.std.proofs.lemmas.List.Quantifiers.{position-Some}
 use Rattle.disks.specs.Device.{zeros}
 use Rattle.disks.specs.Disks.{all_zero}
-use Rattle.volumes.specs.Service.{Service}
 use Rattle.pieces.specs.declared.entry.Entry.{Entry}
-use Rattle.pieces.specs.declared.changed.Key.{Key}
 use Rattle.pieces.specs.Entries.{is_block, free_entry}
 use Rattle.pieces.specs.Layouts.{entries_of}
-use Rattle.pieces.specs.Kept.{Kept, blank_kept, entry_at, index_of, place_in, place_of}
-use Rattle.pieces.specs.Meaning.{Sound, look_in, content, one}
-use Rattle.pieces.specs.Changes.{entry_key, is_before, is_below, listed, Says}
-use Rattle.pieces.specs.Ranges.{is_within}
-use Rattle.pieces.specs.Counts.{number_of, IsHeld, Within}
-use Rattle.pieces.specs.Fits.{HasEntry, EntriesWithin, FitsIn, IsFrom}
-use Rattle.pieces.specs.Replaces.{Held, Filled, replaces}
+use Rattle.pieces.specs.Kept.{Kept, blank_kept, index_of, place_in, place_of}
+use Rattle.pieces.specs.Meaning.{content, one}
+use Rattle.pieces.specs.Counts.{Within}
+use Rattle.pieces.specs.Fits.{EntriesWithin}
+use Rattle.pieces.specs.Replaces.{Held}
 use Rattle.pieces.proofs.Blank.{defaults}
-use Rattle.pieces.proofs.Counting.{only_first, none_of}
 use Rattle.pieces.proofs.Looking.{no_block}
-use Rattle.pieces.proofs.Filling.{fits_stay}
-use Rattle.copies.specs.Service.{Stamped, Portion, in_range}
-use Rattle.served.specs.Blocks.{Block, volume_of, block_of}
-use Rattle.served.specs.Room.{is_gone}
-use Rattle.served.proofs.Keys.{volume_of-key_of, block_of-key_of, key_of-parts}
-use Rattle.keeping.specs.Keeping.{key_at, is_whole, look_held, since_of, stamped, most_listed, portion_held, in_order, filled_with, filled_of, most_emptied, take_held, Good}
-use Rattle.keeping.proofs.Keys.{block_small}
-use Rattle.keeping.proofs.Listed.{listed_each, listed_few, listed_order}
-use Rattle.keeping.proofs.Portions.{find_passes, listed_says}
-use Rattle.keeping.proofs.Moves.{slot_of, slot_looked, eight_looked}
+use Rattle.served.specs.Blocks.{volume_of, block_of}
+use Rattle.keeping.specs.Keeping.{is_whole, look_held, Good}
+use Rattle.keeping.proofs.Moves.{slot_of}
 
 clash : {A : Type 0} → false ≡ true → A
 clash e = let z : ◌≡◌ {A = ℕ} 0 1 = cc in absurd (omega arith)

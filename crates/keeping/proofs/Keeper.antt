@@ -1,10 +1,9 @@
 -- The keeper of the volumes' blocks: what is kept together with what always holds of it. It meets the laws.
-use Rattle.std.proofs.Common.{◌≡◌, ◌≢◌, ◌⊎◌, inl, inr, ℕ, zero, suc, ◌+◌, ◌*◌, ◌/◌, ◌<◌, ◌≤◌, max, Bool, true, false, List, [], ◌∷◌, get_or, Some, None, Option, option_map, refl, sym, ap, ◌∙◌, subst, arith}
-use Rattle.disks.specs.Device.{zeros}
+use Rattle.std.proofs.Common.{◌≡◌, ◌≢◌, ℕ, ◌<◌, Bool, true, false, Some, None, Option, option_map, refl, sym, ap, ◌∙◌, subst, arith}
 use Rattle.volumes.specs.Service.{Service}
 use Rattle.pieces.specs.declared.entry.Entry.{Entry}
 use Rattle.pieces.specs.Entries.{free_entry}
-use Rattle.pieces.specs.Layouts.{places_of, entries_of}
+use Rattle.pieces.specs.Layouts.{entries_of}
 use Rattle.pieces.specs.Kept.{blank_kept, index_of}
 use Rattle.pieces.specs.Meaning.{look_in}
 use Rattle.pieces.specs.Counts.{Within}
@@ -88,14 +87,14 @@ module _ (size room : ℕ) (stays : StaysGood size) where
   taken false floor k s t None x = x
 
   -- what was taken so far holds nothing that the other doesn't, and has no entry of another block
-  abbrev Fit : Service → Keeping size → Keeping size → Type 0
-  Fit r s t = Within s.held.kept t.held.kept × EntriesWithin s.held.kept t.held.kept
+  abbrev pub Fit : Keeping size → Keeping size → Type 0
+  Fit s t = Within s.held.kept t.held.kept × EntriesWithin s.held.kept t.held.kept
 
-  fits_in : (s t : Keeping size) → Within s.held.kept t.held.kept × EntriesWithin s.held.kept t.held.kept → FitsIn size s.held.kept t.held
+  fits_in : (s t : Keeping size) → Fit s t → FitsIn size s.held.kept t.held
   fits_in s t f = record { sound = t.good.sound; clean = t.good.clean; no_blanks = t.good.blanks; held = f.0; entries = f.1 }
 
-  fit_take : (r q : Service) (whole : Bool) (base key : ℕ) (s t : Keeping size) → Within s.held.kept t.held.kept × EntriesWithin s.held.kept t.held.kept →
-      (u : Keeping size) × ((keeper size room stays).take q whole key (portion_held whole base key s.held).next s.held.kept.floor (portion_held whole base key s.held).blocks t ≡ Some u) × (Within s.held.kept u.held.kept × EntriesWithin s.held.kept u.held.kept)
+  fit_take : (r q : Service) (whole : Bool) (base key : ℕ) (s t : Keeping size) → Fit s t →
+      (u : Keeping size) × ((keeper size room stays).take q whole key (portion_held whole base key s.held).next s.held.kept.floor (portion_held whole base key s.held).blocks t ≡ Some u) × Fit s u
   fit_take r q whole base key s t f =
       let p = portion_held whole base key s.held in
       let a = portion_fits size s.held s.good q whole base key t.held (fits_in s t f) in
@@ -104,19 +103,22 @@ module _ (size room : ℕ) (stays : StaysGood size) where
 
 pub keeper_keeps : KeeperKeeps
 unfolding stamp_held
-keeper_keeps size room stays fits = (record {
-  none_empty = none_looks size;
-  write_look = λ r w cs s k has alive. write_looks size r w cs s.held s.good room has fits k alive;
-  write_age = λ r w cs s k has alive. write_ages size r w cs s.held s.good room has fits k alive;
-  portion_is = λ r whole base key s k alive inside. portioned size room stays whole base k s _ (portion_says size s.held s.good whole base key k (used size room stays r k alive) inside);
-  take_in = λ r whole key next floor bs s t k e alive inside. taken size room stays whole floor k s t (lookup k bs) (took_in size r whole key next floor bs s.held t.held s.good (taken_held size _ _ t e) k alive inside);
-  take_out = λ r whole key next floor bs s t k e alive outside. took_out size r whole key next floor bs s.held t.held s.good (taken_held size _ _ t e) k alive outside;
-  take_floor = λ r whole key next floor bs s t e. took_floor size r whole key next floor bs s.held t.held s.good (taken_held size _ _ t e);
-  left = λ s k. left_held s.held k;
-  most = entries_of size;
-  left_most = λ s k. left_most size s.held s.good k;
-  left_falls = λ r whole base key n s e. left_falls size s.held s.good whole base key n e;
-  Fit = λ r s t. Within s.held.kept t.held.kept × EntriesWithin s.held.kept t.held.kept;
-  fit_none = λ r s. (blank_within size s.held.kept, blank_entries size s.held.kept);
-  fit_take = fit_take size room stays;
-}, refl)
+keeper_keeps size room stays fits = (
+  record {
+    none_empty = none_looks size;
+    write_look = λ r w cs s k has alive. write_looks size r w cs s.held s.good room has fits k alive;
+    write_age = λ r w cs s k has alive. write_ages size r w cs s.held s.good room has fits k alive;
+    portion_is = λ r whole base key s k alive inside. portioned size room stays whole base k s _ (portion_says size s.held s.good whole base key k (used size room stays r k alive) inside);
+    take_in = λ r whole key next floor bs s t k e alive inside. taken size room stays whole floor k s t (lookup k bs) (took_in size r whole key next floor bs s.held t.held s.good (taken_held size _ _ t e) k alive inside);
+    take_out = λ r whole key next floor bs s t k e alive outside. took_out size r whole key next floor bs s.held t.held s.good (taken_held size _ _ t e) k alive outside;
+    take_floor = λ r whole key next floor bs s t e. took_floor size r whole key next floor bs s.held t.held s.good (taken_held size _ _ t e);
+    left = λ s k. left_held s.held k;
+    most = entries_of size;
+    left_most = λ s k. left_most size s.held s.good k;
+    left_falls = λ r whole base key n s e. left_falls size s.held s.good whole base key n e;
+    Fit = λ r s t. Within s.held.kept t.held.kept × EntriesWithin s.held.kept t.held.kept;
+    fit_none = λ r s. (blank_within size s.held.kept, blank_entries size s.held.kept);
+    fit_take = fit_take size room stays;
+  },
+  refl,
+)

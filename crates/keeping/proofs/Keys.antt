@@ -1,15 +1,13 @@
 -- Keys as numbers: a number below 2^37 of blocks for each volume, in the same order.
-use Rattle.std.proofs.Common.{◌≡◌, ℕ, zero, suc, ◌+◌, ◌*◌, ◌/◌, ◌%◌, ◌<◌, ◌≤◌, Bool, true, false, ltb, not, refl, sym, ap, ◌∙◌, arith, lt-ltb, ltb-true, inl, inr, ◌⊎◌}
+use Rattle.std.proofs.Common.{◌≡◌, ℕ, zero, suc, ◌<◌, ◌≤◌, Bool, true, false, ltb, not, refl, sym, ◌∙◌, arith, lt-ltb, ltb-true, inl, inr}
 use Rattle.std.proofs.lemmas.Bool.{true≢false}
 use Rattle.volumes.specs.Service.{Service, is_living}
 use Rattle.served.specs.Room.{is_gone}
 use Rattle.pieces.specs.declared.changed.Key.{Key}
-use Rattle.pieces.specs.Changes as changes
 use Rattle.pieces.specs.Changes.{is_before}
 use Rattle.pieces.specs.Counts.{number_of}
 use Rattle.pieces.proofs.Nearest.{Before, NotBefore, before, not_before}
-use Rattle.served.specs.Blocks.{key_of, volume_of, block_of}
-use Rattle.keeping.specs.Keeping.{key_at}
+use Rattle.served.specs.Blocks.{volume_of, block_of}
 
 pub block_small : (k : ℕ) → block_of k < 137438953472
 block_small k = omega arith

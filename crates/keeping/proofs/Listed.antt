@@ -1,5 +1,5 @@
 -- A list of changed blocks, by the numbers of its keys: they rise from the first key on and stay below the next.
-use Rattle.std.proofs.Common.{◌≡◌, ◌≢◌, inl, inr, ℕ, zero, suc, ◌+◌, ◌<◌, ◌≤◌, Bool, true, false, cond, not, ◌&&◌, ◌==◌, ltb, List, [], ◌∷◌, length, map, get_or, Some, None, Option, option_map, refl, sym, ap, ◌∙◌, subst, arith, lt-ltb, ltb-false, le-leb}
+use Rattle.std.proofs.Common.{◌≡◌, ◌≢◌, ℕ, zero, suc, ◌+◌, ◌<◌, ◌≤◌, Bool, true, false, cond, not, ◌&&◌, ◌==◌, ltb, List, length, map, get_or, Some, None, Option, option_map, refl, sym, ap, ◌∙◌, subst, arith, lt-ltb, ltb-false, le-leb}
 use Rattle.std.specs.List.{AllByRecursion}
 use Rattle.std.proofs.lemmas.Bool.{and_from, and_parts, not-true, eqb-false}
 use Rattle.pieces.specs.declared.entry.Stamp.{Stamp}
@@ -9,8 +9,7 @@ use Rattle.pieces.specs.Entries.{free_entry}
 use Rattle.pieces.specs.Changes.{entry_key, is_before, is_newer, is_wanted, nearest, next_number, key_behind, listed, listed_on}
 use Rattle.pieces.specs.Counts.{number_of}
 use Rattle.pieces.proofs.Nearest.{found_nearest}
-use Rattle.copies.specs.Service.{Stamped, in_range}
-use Rattle.served.specs.Blocks.{Block}
+use Rattle.copies.specs.Service.{in_range}
 use Rattle.pieces.specs.Replaces.{Held}
 use Rattle.keeping.specs.Keeping.{look_held, stamped, is_whole, in_order}
 use Rattle.keeping.proofs.Keys.{before_number}

@@ -1,9 +1,7 @@
 -- Sectors move toward what they are to be: each stays as it is or becomes that, and a block that changes has the version.
-use Rattle.std.proofs.Common.{◌≡◌, ◌≢◌, ◌⊎◌, inl, inr, ℕ, zero, suc, ◌+◌, ◌*◌, ◌/◌, ◌<◌, ◌≤◌, Bool, true, false, cond, not, ◌&&◌, ◌==◌, List, [], ◌∷◌, length, get_or, Some, None, Option, refl, sym, ap, ◌∙◌, subst, arith, ext_get_or}
+use Rattle.std.proofs.Common.{◌≡◌, ◌≢◌, ◌⊎◌, inl, inr, ℕ, zero, suc, ◌+◌, ◌*◌, ◌/◌, ◌<◌, ◌≤◌, false, not, List, [], length, get_or, Some, refl, sym, ap, ◌∙◌, subst, arith, ext_get_or}
 use Rattle.std.proofs.lemmas.Bool.{and_right, cases_eq}
-use Rattle.disks.specs.Disks.{all_zero}
 use Rattle.volumes.specs.Service.{Service, is_living}
-use Rattle.pieces.specs.declared.entry.Entry.{Entry}
 use Rattle.pieces.specs.declared.changed.Key.{Key}
 use Rattle.pieces.specs.Kept.{entry_at}
 use Rattle.pieces.specs.Meaning.{shown, age_of}
@@ -79,9 +77,6 @@ module _ (w : ℕ) (F : ℕ → ℕ → List ℕ) where
 
   -- ONE SECTOR
   module _ (size : ℕ) (r : Service) (k0 s : ℕ) (bs : List ℕ) (x m : Held) (fine : Fine size r x) (alive : is_gone r k0 ≡ false) (few : s < 8) (long : length bs ≡ 512) (aim : F k0 s ≡ bs) where
-    n : ℕ
-    n = 8 * block_of k0 + s
-
     at_block : (8 * block_of k0 + s) / 8 ≡ block_of k0
     at_block = omega (arith, few)
 
@@ -129,7 +124,8 @@ module _ (w : ℕ) (F : ℕ → ℕ → List ℕ) where
                 of (inl f) u g = inl (subst (λ (j : ℕ). w ≤ age_at m j) (sym f) (subst (λ (u : ℕ). w ≤ age_of u (block_of k0) m.kept) (sym q) (subst (λ (b : ℕ). w ≤ age_of (suc v) b m.kept) at_block y.stamped)))
                 of (inr f) zero g = absurd (nz g)
                 of (inr f) (suc u) g =
-                    inr
-                    (λ i l. other k i nz l (λ z. f z.0),
-                    subst (λ (u : ℕ). age_of u (block_of k) x.kept ≤ age_of u (block_of k) m.kept) (sym g)
-                    (y.aged u (block_of k) (λ z. f (omega (arith, z.0, z.1, g, q, at_block, key_of-parts k, key_of-parts k0)))))
+                    inr (
+                      λ i l. other k i nz l (λ z. f z.0),
+                      subst (λ (u : ℕ). age_of u (block_of k) x.kept ≤ age_of u (block_of k) m.kept) (sym g)
+                          (y.aged u (block_of k) (λ z. f (omega (arith, z.0, z.1, g, q, at_block, key_of-parts k, key_of-parts k0)))),
+                    )

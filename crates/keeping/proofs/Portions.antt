@@ -1,15 +1,14 @@
 -- A portion says of each block in its range what it is.
-use Rattle.std.proofs.Common.{◌≡◌, ◌≢◌, inl, inr, ℕ, zero, suc, ◌+◌, ◌*◌, ◌/◌, ◌%◌, ◌<◌, ◌≤◌, max, Bool, true, false, cond, not, ◌&&◌, ◌==◌, ltb, List, [], ◌∷◌, length, map, get_or, Some, None, Option, option_map, refl, sym, ap, ◌∙◌, subst, arith, lt-ltb, ltb-true, leb-true, eqb-true, eq-eqb, find}
+use Rattle.std.proofs.Common.{◌≡◌, ◌≢◌, ℕ, zero, suc, ◌+◌, ◌*◌, ◌/◌, ◌%◌, ◌<◌, ◌≤◌, Bool, true, false, cond, not, ◌&&◌, ◌==◌, ltb, List, [], ◌∷◌, length, map, get_or, Some, None, Option, option_map, refl, sym, ap, ◌∙◌, subst, arith, lt-ltb, ltb-true, leb-true, eqb-true, eq-eqb, find}
 use Rattle.std.specs.List.{AllByRecursion, count_by}
 use Rattle.std.proofs.lemmas.List.Sums.{sum_by-cons}
 use Rattle.std.proofs.lemmas.Bool.{and_from, and_parts}
 use Rattle.disks.specs.Device.{zeros}
-use Rattle.pieces.specs.declared.entry.Stamp.{Stamp}
 use Rattle.pieces.specs.declared.entry.Entry.{Entry}
 use Rattle.pieces.specs.declared.changed.Key.{Key}
 use Rattle.pieces.specs.Entries.{is_block, free_entry}
 use Rattle.pieces.specs.Layouts.{entries_of}
-use Rattle.pieces.specs.Kept.{Kept, stamp_of, place_of}
+use Rattle.pieces.specs.Kept.{Kept}
 use Rattle.pieces.specs.Meaning.{look, content, shown, one}
 use Rattle.pieces.specs.Changes as changes
 use Rattle.pieces.specs.Changes.{entry_key, is_before, is_below, listed, Says, is_left, left}

@@ -1,15 +1,14 @@
 -- A portion that was taken over: what is listed is as it says, and what isn't listed is zeros or as it was.
-use Rattle.std.proofs.Common.{◌≡◌, ◌≢◌, ◌⊎◌, inl, inr, ℕ, zero, suc, ◌+◌, ◌*◌, ◌/◌, ◌<◌, ◌≤◌, max, Bool, true, false, cond, not, ◌&&◌, ◌==◌, ltb, List, [], ◌∷◌, length, get_or, Some, None, Option, option_map, find, refl, sym, ap, ◌∙◌, subst, arith, eqb-true, eq-eqb, leb-true, le-leb, ltb-true, lt-ltb, ltb-false, nat_lt, nat_le, slice_index_or}
+use Rattle.std.proofs.Common.{◌≡◌, ℕ, suc, ◌+◌, ◌*◌, ◌<◌, ◌≤◌, Bool, true, false, cond, not, ◌&&◌, ◌==◌, ltb, List, [], ◌∷◌, length, Some, None, Option, option_map, find, refl, sym, ap, ◌∙◌, subst, arith, eqb-true, eq-eqb, leb-true, le-leb, ltb-false, nat_lt, nat_le}
 use Rattle.std.specs.List.{list_all}
 use Rattle.std.proofs.lemmas.Bool.{and_from, and_parts, not-true, not_from_false, ne_eqb}
 use Rattle.std.proofs.lemmas.List.Sums.{AllPass-from_list_all}
 use Rattle.disks.specs.Device.{zeros}
 use Rattle.volumes.specs.Service.{Service}
-use Rattle.pieces.specs.declared.changed.Key.{Key}
 use Rattle.pieces.specs.Meaning.{shown, age_of}
-use Rattle.pieces.specs.Changes.{is_before, is_below}
+use Rattle.pieces.specs.Changes.{is_before}
 use Rattle.pieces.specs.Counts.{number_of}
-use Rattle.pieces.specs.Replaces.{Held, Filled, replaces, is_filled, is_in, IsWhole, AreWhole, Stays, Replaced}
+use Rattle.pieces.specs.Replaces.{Held, is_filled, is_in, IsWhole, AreWhole, Stays, Replaced}
 use Rattle.pieces.proofs.ReplaceMeaning.{replace_means}
 use Rattle.copies.specs.Service.{Stamped, in_range, lookup}
 use Rattle.served.specs.Blocks.{Block, empty_block, volume_of, block_of}
@@ -17,7 +16,7 @@ use Rattle.served.specs.Room.{is_gone}
 use Rattle.served.proofs.Keys.{key_of-parts}
 use Rattle.keeping.specs.Keeping.{key_at, is_whole, look_held, in_order, filled_with, filled_of, most_emptied, take_held, Good}
 use Rattle.keeping.proofs.Keys.{block_small, before_number, not_below, iff_same, has_volume}
-use Rattle.keeping.proofs.Portions.{in_low, in_high}
+use Rattle.keeping.proofs.Portions.{in_low}
 use Rattle.keeping.proofs.Moves.{slot_of, age_at, looks_as, slot_looked, eight_looked}
 use Rattle.keeping.proofs.Taking.{take_parts}
 
@@ -154,9 +153,10 @@ module _ (size : ℕ) (r : Service) (whole : Bool) (key : ℕ) (next : Option �
       go : (u : ℕ) × (volume_of k ≡ suc u) → (t : Bool) → whole ≡ t → (o : Option (Stamped Block)) → lookup k bs ≡ o → TakenOver t h m k o
       go (u, e) t f (Some b) q =
           let listed : find (is_filled (suc u) (block_of k)) (filled_of r bs) ≡ Some (filled_with b) = subst (λ (v : ℕ). find (is_filled v (block_of k)) (filled_of r bs) ≡ Some (filled_with b)) e (lookup_filled r k alive bs ∙ ap (option_map filled_with) q) in
-          let p = and_parts (length b.block == 8) (list_all (λ bs. length bs == 512) b.block) (order_whole next bs key k b ordered q) in
-          (looks_as m k b.block (eqb-true (length b.block) 8 p.0) (λ i l. ap (λ (v : ℕ). shown m.data' m.kept v (8 * block_of k + i)) e ∙ x.listed u (block_of k) (filled_with b) listed i l),
-          subst (λ (v : ℕ). b.stamp ≤ age_of v (block_of k) m.kept) (sym e) (x.stamped u (block_of k) (filled_with b) listed))
+          let p = and_parts (length b.block == 8) (list_all (λ bs. length bs == 512) b.block) (order_whole next bs key k b ordered q) in (
+            looks_as m k b.block (eqb-true (length b.block) 8 p.0) (λ i l. ap (λ (v : ℕ). shown m.data' m.kept v (8 * block_of k + i)) e ∙ x.listed u (block_of k) (filled_with b) listed i l),
+            subst (λ (v : ℕ). b.stamp ≤ age_of v (block_of k) m.kept) (sym e) (x.stamped u (block_of k) (filled_with b) listed),
+          )
       go (u, e) true f None q =
           let none : find (is_filled (suc u) (block_of k)) (filled_of r bs) ≡ None = subst (λ (v : ℕ). find (is_filled v (block_of k)) (filled_of r bs) ≡ None) e (lookup_filled r k alive bs ∙ ap (option_map filled_with) q) in
           let within : is_in (key_at key) (option_map key_at next) (suc u) (block_of k) ≡ true = subst (λ (v : ℕ). is_in (key_at key) (option_map key_at next) v (block_of k) ≡ true) e (sym (range_same key next k) ∙ inside) in

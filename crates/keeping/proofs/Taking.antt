@@ -1,24 +1,23 @@
 -- A portion is taken over: what always holds still holds.
-use Rattle.std.proofs.Common.{◌≡◌, ◌≢◌, ◌⊎◌, inl, inr, ℕ, zero, suc, ◌+◌, ◌*◌, ◌/◌, ◌<◌, ◌≤◌, max, Bool, true, false, cond, not, ◌&&◌, ◌==◌, List, [], ◌∷◌, length, get_or, Some, None, Option, option_map, refl, sym, ap, ◌∙◌, subst, arith, eqb-true, nat_lt}
+use Rattle.std.proofs.Common.{◌≡◌, ◌≢◌, ◌⊎◌, inl, inr, ℕ, zero, suc, ◌+◌, ◌*◌, ◌<◌, ◌≤◌, Bool, true, false, cond, ◌&&◌, ◌==◌, List, [], ◌∷◌, length, Some, None, Option, option_map, refl, sym, ap, ◌∙◌, subst, arith, eqb-true, nat_lt}
 use Rattle.std.specs.List.{list_all, AllByRecursion, count_by}
 use Rattle.std.proofs.lemmas.Bool.{and_parts}
 use Rattle.disks.specs.Disks.{all_zero}
 use Rattle.volumes.specs.Service.{Service}
 use Rattle.pieces.specs.declared.changed.Key.{Key}
 use Rattle.pieces.specs.Entries.{free_entry}
-use Rattle.pieces.specs.Kept.{Kept, entry_at, place_of, raised}
-use Rattle.pieces.specs.Meaning.{Sound, content, shown}
-use Rattle.pieces.specs.Counts.{Thinned}
+use Rattle.pieces.specs.Kept.{entry_at, place_of, raised}
+use Rattle.pieces.specs.Meaning.{content}
 use Rattle.pieces.specs.Ranges.{is_within}
 use Rattle.pieces.specs.Replaces.{Held, Filled, sets_held, then_held, fills_slots, fills, fills_all, vacates_where, emptied, floor_raised, replaces, Vacates}
 use Rattle.pieces.proofs.Looking.{place_looked}
 use Rattle.pieces.proofs.Vacating.{vacate_means}
 use Rattle.copies.specs.Service.{Stamped, in_range}
-use Rattle.served.specs.Blocks.{Block, volume_of, block_of}
+use Rattle.served.specs.Blocks.{Block}
 use Rattle.served.specs.Room.{is_gone}
 use Rattle.keeping.specs.Keeping.{key_at, is_whole, in_order, filled_with, filled_of, most_emptied, take_held, Good}
 use Rattle.keeping.proofs.Keys.{has_volume, block_small}
-use Rattle.keeping.proofs.Sets.{SetsHeld, sets_means, thinned_good}
+use Rattle.keeping.proofs.Sets.{sets_means, thinned_good}
 
 -- a block that may be set
 abbrev pub MayFill : Filled → Type 0
@@ -42,7 +41,7 @@ module _ (size : ℕ) where
       one zero nz l u e = absurd (nz refl)
       one (suc v) nz l u e = (sets_means size v (8 * b + s) w bs h g (omega (arith, small, few)) l u e).good
 
-  fills_good : (xs : List Filled) (h m : Held) → AllByRecursion (λ (x : Filled). (x.volume ≢ 0) × (x.block < 137438953472) × (is_whole x.sectors ≡ true)) xs → Good size h → fills_all xs h ≡ Some m → Good size m
+  fills_good : (xs : List Filled) (h m : Held) → AllByRecursion MayFill xs → Good size h → fills_all xs h ≡ Some m → Good size m
   unfolding fills_all
   fills_good [] h m a g e = let same : h ≡ m = cc in subst (Good size) same g
   fills_good (x ∷ xs) h m a g e =
@@ -77,7 +76,7 @@ module _ (size : ℕ) where
   map_some w None m e = let d : ◌≡◌ {A = ℕ} 0 1 = cc in absurd (omega arith)
   map_some w (Some u) m e = (u, refl, let same : floor_raised w u ≡ m = cc in same)
 
-  replaces_good : (from : Key) (next : Option Key) (whole : Bool) (most floor : ℕ) (xs : List Filled) (h m : Held) → AllByRecursion (λ (x : Filled). (x.volume ≢ 0) × (x.block < 137438953472) × (is_whole x.sectors ≡ true)) xs → Good size h → replaces from next whole most floor xs h ≡ Some m → Good size m
+  replaces_good : (from : Key) (next : Option Key) (whole : Bool) (most floor : ℕ) (xs : List Filled) (h m : Held) → AllByRecursion MayFill xs → Good size h → replaces from next whole most floor xs h ≡ Some m → Good size m
   unfolding replaces
   replaces_good from next false most floor xs h m a g e =
       let t = map_some floor (fills_all xs h) m e in
@@ -91,7 +90,7 @@ module _ (size : ℕ) where
           subst (Good size) t.2 (raised_good floor t.0 (fills_good xs (emptied from next h) t.0 a (emptied_good from next h g) t.1))
 
 -- what isn't gone of a portion in order may be set
-pub filled_may : (r : Service) (next : Option ℕ) (bs : List (Stamped Block)) (key : ℕ) → in_order key next bs ≡ true → AllByRecursion (λ (x : Filled). (x.volume ≢ 0) × (x.block < 137438953472) × (is_whole x.sectors ≡ true)) (filled_of r bs)
+pub filled_may : (r : Service) (next : Option ℕ) (bs : List (Stamped Block)) (key : ℕ) → in_order key next bs ≡ true → AllByRecursion MayFill (filled_of r bs)
 unfolding filled_of in_order
 filled_may r next [] key e = tt
 filled_may r next (b ∷ bs) key e =
@@ -99,8 +98,8 @@ filled_may r next (b ∷ bs) key e =
     let q = and_parts (is_whole b.block) (in_order (suc b.key) next bs) p.1 in
     go (is_gone r b.key) refl q.0 (filled_may r next bs (suc b.key) q.1)
   where
-    go : (t : Bool) → is_gone r b.key ≡ t → is_whole b.block ≡ true → AllByRecursion (λ (x : Filled). (x.volume ≢ 0) × (x.block < 137438953472) × (is_whole x.sectors ≡ true)) (filled_of r bs) →
-        AllByRecursion (λ (x : Filled). (x.volume ≢ 0) × (x.block < 137438953472) × (is_whole x.sectors ≡ true)) (cond t (filled_of r bs) (filled_with b ∷ filled_of r bs))
+    go : (t : Bool) → is_gone r b.key ≡ t → is_whole b.block ≡ true → AllByRecursion MayFill (filled_of r bs) →
+        AllByRecursion MayFill (cond t (filled_of r bs) (filled_with b ∷ filled_of r bs))
     go true q w ih = ih
     go false q w ih = let v = has_volume r b.key q in ((λ z. absurd (omega (arith, v.1, z)), block_small b.key, w), ih)
 

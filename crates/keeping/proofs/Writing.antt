@@ -1,5 +1,5 @@
 -- Blocks are written, in a pass for zeros or in one for all other sectors: all that is of the pass is reached, if it can be set.
-use Rattle.std.proofs.Common.{◌≡◌, ◌≢◌, ◌⊎◌, inl, inr, ℕ, zero, suc, ◌+◌, ◌*◌, ◌<◌, ◌≤◌, Bool, true, false, cond, not, ◌&&◌, ◌||◌, ◌==◌, List, [], ◌∷◌, length, get_or, Some, None, Option, refl, sym, ap, ◌∙◌, subst, arith, eqb-true, bytes_eq}
+use Rattle.std.proofs.Common.{◌≡◌, ◌≢◌, ◌⊎◌, inl, inr, ℕ, suc, ◌+◌, ◌*◌, ◌<◌, ◌≤◌, Bool, true, false, cond, not, ◌&&◌, ◌==◌, List, [], ◌∷◌, length, get_or, Some, None, Option, refl, sym, ap, ◌∙◌, subst, arith, eqb-true, bytes_eq}
 use Rattle.std.specs.List.{list_any, list_all, AllByRecursion}
 use Rattle.std.proofs.lemmas.Bool.{and_parts, and_cases, or_cases, not-false, not-true, cases_eq}
 use Rattle.std.proofs.lemmas.Slice.Eq.{bytes_eq-Decides}
@@ -10,8 +10,7 @@ use Rattle.pieces.specs.Replaces.{Held, sets_held}
 use Rattle.copies.specs.Service.{Change}
 use Rattle.served.specs.Blocks.{Block, volume_of, block_of}
 use Rattle.served.specs.Room.{is_gone}
-use Rattle.keeping.specs.Keeping.{is_whole, is_of_pass, or_held, writes_sector, writes_slots, writes_all, Good}
-use Rattle.keeping.proofs.Keys.{has_volume}
+use Rattle.keeping.specs.Keeping.{is_whole, is_of_pass, or_held, writes_sector, writes_slots, writes_all}
 use Rattle.keeping.proofs.Moves.{slot_of, Fine, Moves, moves_none, moves_on, set_moves}
 
 clash : {A : Type 0} → false ≡ true → A
@@ -27,13 +26,13 @@ pass_of false bs e = not-true (all_zero bs) e
 
 module _ (size : ℕ) (r : Service) (w : ℕ) (F : ℕ → ℕ → List ℕ) (z : Bool) where
   -- from there on each sector of the pass can be set
-  abbrev Able : Held → Type 0
+  abbrev pub Able : Held → Type 0
   Able x = (y : Held) → Fine size r y → Moves w F x y → (k i : ℕ) (bs : List ℕ) → is_gone r k ≡ false → i < 8 → length bs ≡ 512 → all_zero bs ≡ z → sets_held (volume_of k) (8 * block_of k + i) bs w y ≡ None → ⊥
 
   pub record Passed (T : ℕ → ℕ → Type 0) (x y : Held) : Type 0 where
     pub fine : Fine size r y
     pub moves : Moves w F x y
-    pub reached : ((y : Held) → Fine size r y → Moves w F x y → (k i : ℕ) (bs : List ℕ) → is_gone r k ≡ false → i < 8 → length bs ≡ 512 → all_zero bs ≡ z → sets_held (volume_of k) (8 * block_of k + i) bs w y ≡ None → ⊥) →
+    pub reached : Able x →
         (k i : ℕ) → T k i → volume_of k ≢ 0 → i < 8 → all_zero (F k i) ≡ z → slot_of y k i ≡ F k i
 
   passed_on : (T U V : ℕ → ℕ → Type 0) (x y u : Held) → ((k i : ℕ) → i < 8 → V k i → T k i ⊎ U k i) → Passed T x y → Passed U y u → Passed V x u
@@ -49,9 +48,6 @@ module _ (size : ℕ) (r : Service) (w : ℕ) (F : ℕ → ℕ → List ℕ) (z 
 
   -- a sector
   module _ (k0 s : ℕ) (bs : List ℕ) (alive : is_gone r k0 ≡ false) (few : s < 8) (long : length bs ≡ 512) (aim : F k0 s ≡ bs) where
-    abbrev Here : ℕ → ℕ → Type 0
-    Here k i = (k ≡ k0) × (i ≡ s)
-
     sector_passed : (x : Held) → Fine size r x → Passed (λ k i. (k ≡ k0) × (i ≡ s)) x (writes_sector z w (volume_of k0) (8 * block_of k0 + s) bs x)
     unfolding writes_sector
     sector_passed x fine = go (is_of_pass z bs && not (bytes_eq (shown x.data' x.kept (volume_of k0) (8 * block_of k0 + s)) bs)) refl
@@ -98,7 +94,7 @@ module _ (size : ℕ) (r : Service) (w : ℕ) (F : ℕ → ℕ → List ℕ) (z 
   abbrev pub Aims : Change Block → Type 0
   Aims c = (is_gone r c.key ≡ false) × (is_whole c.block ≡ true) × ((i : ℕ) → F c.key i ≡ get_or c.block i [])
 
-  pub all_passed : (cs : List (Change Block)) (x : Held) → Fine size r x → AllByRecursion (λ (c : Change Block). (is_gone r c.key ≡ false) × (is_whole c.block ≡ true) × ((i : ℕ) → F c.key i ≡ get_or c.block i [])) cs →
+  pub all_passed : (cs : List (Change Block)) (x : Held) → Fine size r x → AllByRecursion Aims cs →
       Passed (λ k i. list_any (λ (c : Change Block). c.key == k) cs ≡ true) x (writes_all z w cs x)
   unfolding writes_all
   all_passed [] x fine a = record { fine = fine; moves = moves_none w F x; reached = λ able k i t nz l e. clash t }

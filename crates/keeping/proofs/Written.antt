@@ -1,24 +1,22 @@
 -- Blocks change: they are what they are to be, where that has room.
-use Rattle.std.proofs.Common.{◌≡◌, ◌≢◌, ◌⊎◌, inl, inr, ℕ, zero, suc, ◌+◌, ◌*◌, ◌<◌, ◌≤◌, slice_index_or, Bool, true, false, not, ◌&&◌, ◌==◌, eqb, List, [], ◌∷◌, length, get_or, Some, None, Option, refl, sym, ap, ◌∙◌, subst, arith, eqb-true, eq-eqb}
-use Rattle.std.specs.List.{list_any, list_all, AllByRecursion, All, IsDistinct, sum_by}
-use Rattle.std.proofs.lemmas.Bool.{and_from, and_right, and_cases, not-false, cases_lt}
+use Rattle.std.proofs.Common.{◌≡◌, ◌≢◌, ◌⊎◌, inl, inr, ℕ, ◌+◌, ◌*◌, ◌<◌, ◌≤◌, slice_index_or, Bool, true, false, not, ◌==◌, List, [], ◌∷◌, length, get_or, Some, None, refl, sym, ap, ◌∙◌, subst, arith, eqb-true, eq-eqb}
+use Rattle.std.specs.List.{AllByRecursion}
+use Rattle.std.proofs.lemmas.Bool.{and_from, and_cases, not-false, cases_lt}
 use Rattle.std.proofs.lemmas.List.{get_or_past}
 use Rattle.std.proofs.lemmas.List.Sums.{list_all-from_AllPass}
 use Rattle.disks.specs.Disks.{all_zero, one}
 use Rattle.volumes.specs.Service.{Service, is_living}
-use Rattle.pieces.specs.declared.entry.Entry.{Entry}
 use Rattle.pieces.specs.Layouts.{places_of}
-use Rattle.pieces.specs.Kept.{Kept, WasSet, entry_at, sets}
+use Rattle.pieces.specs.Kept.{entry_at, sets}
 use Rattle.pieces.specs.Meaning.{held}
 use Rattle.pieces.specs.Changes.{entry_key}
 use Rattle.pieces.specs.Counts.{number_of, used_of, filled, block_shown, InUse}
-use Rattle.pieces.specs.Replaces as replaces
 use Rattle.pieces.specs.Replaces.{Held, sets_held, set_of}
 use Rattle.pieces.proofs.Always.{zeros_need_none, always_room}
 use Rattle.pieces.proofs.Counting.{sum_fewer}
 use Rattle.pieces.proofs.Numbered.{held_by_numbers}
 use Rattle.copies.specs.Service.{Change, overwritten}
-use Rattle.served.specs.Blocks.{Block, key_of, volume_of, block_of}
+use Rattle.served.specs.Blocks.{Block, volume_of, block_of}
 use Rattle.served.specs.Room.{is_gone, HasRoom, IsBlock}
 use Rattle.served.proofs.Bounds.{room_bounds}
 use Rattle.served.proofs.Keys.{volume_of-key_of, block_of-key_of}
