@@ -12,3 +12,4 @@ pub mod Taken
 pub mod Fitting
 pub mod Fits
 pub mod Keeper
+pub mod Single
