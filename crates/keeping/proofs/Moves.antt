@@ -76,56 +76,56 @@ module _ (w : ℕ) (F : ℕ → ℕ → List ℕ) where
       old k (inr p) (inr q) = inr (λ i l. q.0 i l ∙ p.0 i l, omega (arith, p.1, q.1))
 
   -- ONE SECTOR
-  module _ (size : ℕ) (r : Service) (k0 s : ℕ) (bs : List ℕ) (x m : Held) (fine : Fine size r x) (alive : is_gone r k0 ≡ false) (few : s < 8) (long : length bs ≡ 512) (aim : F k0 s ≡ bs) where
-    at_block : (8 * block_of k0 + s) / 8 ≡ block_of k0
+  module _ (size : ℕ) (r : Service) (key s : ℕ) (bs : List ℕ) (x m : Held) (fine : Fine size r x) (alive : is_gone r key ≡ false) (few : s < 8) (long : length bs ≡ 512) (aim : F key s ≡ bs) where
+    at_block : (8 * block_of key + s) / 8 ≡ block_of key
     at_block = omega (arith, few)
 
-    pub set_moves : sets_held (volume_of k0) (8 * block_of k0 + s) bs w x ≡ Some m → Fine size r m × Moves w F x m × (slot_of m k0 s ≡ F k0 s)
-    set_moves e = go (has_volume r k0 alive)
+    pub set_moves : sets_held (volume_of key) (8 * block_of key + s) bs w x ≡ Some m → Fine size r m × Moves w F x m × (slot_of m key s ≡ F key s)
+    set_moves e = go (has_volume r key alive)
       where
-        go : (u : ℕ) × (volume_of k0 ≡ suc u) → Fine size r m × Moves w F x m × (slot_of m k0 s ≡ F k0 s)
+        go : (u : ℕ) × (volume_of key ≡ suc u) → Fine size r m × Moves w F x m × (slot_of m key s ≡ F key s)
         go (v, q) = (record { good = y.good; lives = lives }, record { toward = toward; aged = aged }, here)
           where
-            y : SetsHeld size v (8 * block_of k0 + s) bs w x m
-            y = sets_means size v (8 * block_of k0 + s) w bs x fine.good (omega (arith, at_block, block_small k0)) long m (ap (λ (u : ℕ). sets_held u (8 * block_of k0 + s) bs w x) (sym q) ∙ e)
+            y : SetsHeld size v (8 * block_of key + s) bs w x m
+            y = sets_means size v (8 * block_of key + s) w bs x fine.good (omega (arith, at_block, block_small key)) long m (ap (λ (u : ℕ). sets_held u (8 * block_of key + s) bs w x) (sym q) ∙ e)
 
-            here : slot_of m k0 s ≡ F k0 s
-            here = ap (λ (u : ℕ). shown m.data' m.kept u (8 * block_of k0 + s)) q ∙ y.found ∙ sym aim
+            here : slot_of m key s ≡ F key s
+            here = ap (λ (u : ℕ). shown m.data' m.kept u (8 * block_of key + s)) q ∙ y.found ∙ sym aim
 
             lives : Lives r m
             lives i = of (y.entries i)
               where
-                of : (entry_key (entry_at i m.kept) ≡ changes.key_of (suc v) ((8 * block_of k0 + s) / 8)) ⊎ (entry_at i m.kept ≡ entry_at i x.kept) → replaces.is_gone r.next r.heads (entry_at i m.kept) ≡ false
+                of : (entry_key (entry_at i m.kept) ≡ changes.key_of (suc v) ((8 * block_of key + s) / 8)) ⊎ (entry_at i m.kept ≡ entry_at i x.kept) → replaces.is_gone r.next r.heads (entry_at i m.kept) ≡ false
                 of (inl f) = and_right _ _ (ap (λ (u : ℕ). not (is_living r.next r.heads u)) (ap (λ (z : Key). z.volume.0) f ∙ sym q) ∙ alive)
                 of (inr f) = ap (replaces.is_gone r.next r.heads) f ∙ fine.lives i
 
-            other : (k i : ℕ) → volume_of k ≢ 0 → i < 8 → ((k ≡ k0) × (i ≡ s) → ⊥) → slot_of m k i ≡ slot_of x k i
+            other : (k i : ℕ) → volume_of k ≢ 0 → i < 8 → ((k ≡ key) × (i ≡ s) → ⊥) → slot_of m k i ≡ slot_of x k i
             other k i nz l o = of (volume_of k) refl
               where
                 of : (u : ℕ) → volume_of k ≡ u → slot_of m k i ≡ slot_of x k i
                 of zero f = absurd (nz f)
                 of (suc u) f =
                     ap (λ (u : ℕ). shown m.data' m.kept u (8 * block_of k + i)) f
-                    ∙ y.others u (8 * block_of k + i) (λ z. o (omega (arith, z.0, z.1, f, q, l, few, key_of-parts k, key_of-parts k0), omega (arith, z.1, l, few)))
+                    ∙ y.others u (8 * block_of k + i) (λ z. o (omega (arith, z.0, z.1, f, q, l, few, key_of-parts k, key_of-parts key), omega (arith, z.1, l, few)))
                     ∙ sym (ap (λ (u : ℕ). shown x.data' x.kept u (8 * block_of k + i)) f)
 
             toward : (k i : ℕ) → volume_of k ≢ 0 → i < 8 → (slot_of m k i ≡ slot_of x k i) ⊎ (slot_of m k i ≡ F k i)
-            toward k i nz l = of (cases_eq k k0) (cases_eq i s)
+            toward k i nz l = of (cases_eq k key) (cases_eq i s)
               where
-                of : (k ≡ k0) ⊎ (k ≡ k0 → ⊥) → (i ≡ s) ⊎ (i ≡ s → ⊥) → (slot_of m k i ≡ slot_of x k i) ⊎ (slot_of m k i ≡ F k i)
+                of : (k ≡ key) ⊎ (k ≡ key → ⊥) → (i ≡ s) ⊎ (i ≡ s → ⊥) → (slot_of m k i ≡ slot_of x k i) ⊎ (slot_of m k i ≡ F k i)
                 of (inl f) (inl g) = inr (subst (λ (j : ℕ). slot_of m k j ≡ F k j) (sym g) (subst (λ (j : ℕ). slot_of m j s ≡ F j s) (sym f) here))
                 of (inr f) g = inl (other k i nz l (λ z. f z.0))
                 of f (inr g) = inl (other k i nz l (λ z. g z.1))
 
             aged : (k : ℕ) → volume_of k ≢ 0 → (w ≤ age_at m k) ⊎ (((i : ℕ) → i < 8 → slot_of m k i ≡ slot_of x k i) × (age_at x k ≤ age_at m k))
-            aged k nz = of (cases_eq k k0) (volume_of k) refl
+            aged k nz = of (cases_eq k key) (volume_of k) refl
               where
-                of : (k ≡ k0) ⊎ (k ≡ k0 → ⊥) → (u : ℕ) → volume_of k ≡ u → (w ≤ age_at m k) ⊎ (((i : ℕ) → i < 8 → slot_of m k i ≡ slot_of x k i) × (age_at x k ≤ age_at m k))
-                of (inl f) u g = inl (subst (λ (j : ℕ). w ≤ age_at m j) (sym f) (subst (λ (u : ℕ). w ≤ age_of u (block_of k0) m.kept) (sym q) (subst (λ (b : ℕ). w ≤ age_of (suc v) b m.kept) at_block y.stamped)))
+                of : (k ≡ key) ⊎ (k ≡ key → ⊥) → (u : ℕ) → volume_of k ≡ u → (w ≤ age_at m k) ⊎ (((i : ℕ) → i < 8 → slot_of m k i ≡ slot_of x k i) × (age_at x k ≤ age_at m k))
+                of (inl f) u g = inl (subst (λ (j : ℕ). w ≤ age_at m j) (sym f) (subst (λ (u : ℕ). w ≤ age_of u (block_of key) m.kept) (sym q) (subst (λ (b : ℕ). w ≤ age_of (suc v) b m.kept) at_block y.stamped)))
                 of (inr f) zero g = absurd (nz g)
                 of (inr f) (suc u) g =
                     inr (
                       λ i l. other k i nz l (λ z. f z.0),
                       subst (λ (u : ℕ). age_of u (block_of k) x.kept ≤ age_of u (block_of k) m.kept) (sym g)
-                          (y.aged u (block_of k) (λ z. f (omega (arith, z.0, z.1, g, q, at_block, key_of-parts k, key_of-parts k0)))),
+                          (y.aged u (block_of k) (λ z. f (omega (arith, z.0, z.1, g, q, at_block, key_of-parts k, key_of-parts key)))),
                     )

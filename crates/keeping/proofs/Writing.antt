@@ -44,49 +44,49 @@ module _ (size : ℕ) (r : Service) (w : ℕ) (F : ℕ → ℕ → List ℕ) (z 
 
       go : Able x → (k i : ℕ) → volume_of k ≢ 0 → i < 8 → all_zero (F k i) ≡ z → T k i ⊎ U k i → slot_of u k i ≡ F k i
       go able k i nz l e (inl t) = still k i (a.reached able k i t nz l e) (b.moves.toward k i nz l)
-      go able k i nz l e (inr t) = b.reached (λ y2 f m. able y2 f (moves_on w F x y y2 a.moves m)) k i t nz l e
+      go able k i nz l e (inr t) = b.reached (λ v f m. able v f (moves_on w F x y v a.moves m)) k i t nz l e
 
   -- a sector
-  module _ (k0 s : ℕ) (bs : List ℕ) (alive : is_gone r k0 ≡ false) (few : s < 8) (long : length bs ≡ 512) (aim : F k0 s ≡ bs) where
-    sector_passed : (x : Held) → Fine size r x → Passed (λ k i. (k ≡ k0) × (i ≡ s)) x (writes_sector z w (volume_of k0) (8 * block_of k0 + s) bs x)
+  module _ (key s : ℕ) (bs : List ℕ) (alive : is_gone r key ≡ false) (few : s < 8) (long : length bs ≡ 512) (aim : F key s ≡ bs) where
+    sector_passed : (x : Held) → Fine size r x → Passed (λ k i. (k ≡ key) × (i ≡ s)) x (writes_sector z w (volume_of key) (8 * block_of key + s) bs x)
     unfolding writes_sector
-    sector_passed x fine = go (is_of_pass z bs && not (bytes_eq (shown x.data' x.kept (volume_of k0) (8 * block_of k0 + s)) bs)) refl
+    sector_passed x fine = go (is_of_pass z bs && not (bytes_eq (shown x.data' x.kept (volume_of key) (8 * block_of key + s)) bs)) refl
       where
-        at : (y : Held) (k i : ℕ) → (k ≡ k0) × (i ≡ s) → slot_of y k0 s ≡ F k0 s → slot_of y k i ≡ F k i
-        at y k i t e = subst (λ (j : ℕ). slot_of y j i ≡ F j i) (sym t.0) (subst (λ (j : ℕ). slot_of y k0 j ≡ F k0 j) (sym t.1) e)
+        at : (y : Held) (k i : ℕ) → (k ≡ key) × (i ≡ s) → slot_of y key s ≡ F key s → slot_of y k i ≡ F k i
+        at y k i t e = subst (λ (j : ℕ). slot_of y j i ≡ F j i) (sym t.0) (subst (λ (j : ℕ). slot_of y key j ≡ F key j) (sym t.1) e)
 
-        same : (is_of_pass z bs ≡ false) ⊎ (not (bytes_eq (shown x.data' x.kept (volume_of k0) (8 * block_of k0 + s)) bs) ≡ false) → (k i : ℕ) → (k ≡ k0) × (i ≡ s) → all_zero (F k i) ≡ z → slot_of x k0 s ≡ F k0 s
+        same : (is_of_pass z bs ≡ false) ⊎ (not (bytes_eq (shown x.data' x.kept (volume_of key) (8 * block_of key + s)) bs) ≡ false) → (k i : ℕ) → (k ≡ key) × (i ≡ s) → all_zero (F k i) ≡ z → slot_of x key s ≡ F key s
         same (inl f) k i t e =
             clash (sym f ∙ of_pass z bs (ap all_zero (sym aim) ∙ sym (ap (λ (j : ℕ). all_zero (F j s)) t.0) ∙ sym (ap (λ (j : ℕ). all_zero (F k j)) t.1) ∙ e))
-        same (inr f) k i t e = (bytes_eq-Decides (slot_of x k0 s) bs).0 (not-false (bytes_eq (slot_of x k0 s) bs) f) ∙ sym aim
+        same (inr f) k i t e = (bytes_eq-Decides (slot_of x key s) bs).0 (not-false (bytes_eq (slot_of x key s) bs) f) ∙ sym aim
 
-        set : all_zero bs ≡ z → (o : Option Held) → sets_held (volume_of k0) (8 * block_of k0 + s) bs w x ≡ o → Passed (λ k i. (k ≡ k0) × (i ≡ s)) x (or_held o x)
-        set f None e = record { fine = fine; moves = moves_none w F x; reached = λ able k i t nz l q. absurd (able x fine (moves_none w F x) k0 s bs alive few long f e) }
+        set : all_zero bs ≡ z → (o : Option Held) → sets_held (volume_of key) (8 * block_of key + s) bs w x ≡ o → Passed (λ k i. (k ≡ key) × (i ≡ s)) x (or_held o x)
+        set f None e = record { fine = fine; moves = moves_none w F x; reached = λ able k i t nz l q. absurd (able x fine (moves_none w F x) key s bs alive few long f e) }
         set f (Some m) e =
-            let a = set_moves w F size r k0 s bs x m fine alive few long aim e in
+            let a = set_moves w F size r key s bs x m fine alive few long aim e in
             record { fine = a.0; moves = a.1; reached = λ able k i t nz l q. at m k i t a.2 }
 
-        go : (t : Bool) → (is_of_pass z bs && not (bytes_eq (shown x.data' x.kept (volume_of k0) (8 * block_of k0 + s)) bs)) ≡ t →
-            Passed (λ k i. (k ≡ k0) × (i ≡ s)) x (cond t (or_held (sets_held (volume_of k0) (8 * block_of k0 + s) bs w x) x) x)
-        go true e = set (pass_of z bs (and_parts _ _ e).0) (sets_held (volume_of k0) (8 * block_of k0 + s) bs w x) refl
+        go : (t : Bool) → (is_of_pass z bs && not (bytes_eq (shown x.data' x.kept (volume_of key) (8 * block_of key + s)) bs)) ≡ t →
+            Passed (λ k i. (k ≡ key) × (i ≡ s)) x (cond t (or_held (sets_held (volume_of key) (8 * block_of key + s) bs w x) x) x)
+        go true e = set (pass_of z bs (and_parts _ _ e).0) (sets_held (volume_of key) (8 * block_of key + s) bs w x) refl
         go false e = record { fine = fine; moves = moves_none w F x; reached = λ able k i t nz l q. at x k i t (same (and_cases _ _ e) k i t q) }
 
   -- a block, from a slot on
-  slots_passed : (k0 : ℕ) → is_gone r k0 ≡ false → (more : Block) (s : ℕ) (x : Held) → Fine size r x → s + length more ≤ 8 → list_all (λ bs. length bs == 512) more ≡ true → ((i : ℕ) → i < length more → F k0 (s + i) ≡ get_or more i []) →
-      Passed (λ k i. (k ≡ k0) × (s ≤ i) × (i < s + length more)) x (writes_slots z w (volume_of k0) (block_of k0) s more x)
+  slots_passed : (key : ℕ) → is_gone r key ≡ false → (more : Block) (s : ℕ) (x : Held) → Fine size r x → s + length more ≤ 8 → list_all (λ bs. length bs == 512) more ≡ true → ((i : ℕ) → i < length more → F key (s + i) ≡ get_or more i []) →
+      Passed (λ k i. (k ≡ key) × (s ≤ i) × (i < s + length more)) x (writes_slots z w (volume_of key) (block_of key) s more x)
   unfolding writes_slots
-  slots_passed k0 alive [] s x fine few long aim = record { fine = fine; moves = moves_none w F x; reached = λ able k i t nz l e. absurd (omega (arith, t.1, t.2)) }
-  slots_passed k0 alive (bs ∷ more) s x fine few long aim =
+  slots_passed key alive [] s x fine few long aim = record { fine = fine; moves = moves_none w F x; reached = λ able k i t nz l e. absurd (omega (arith, t.1, t.2)) }
+  slots_passed key alive (bs ∷ more) s x fine few long aim =
       let p = and_parts (length bs == 512) (list_all (λ bs. length bs == 512) more) long in
-      let one = sector_passed k0 s bs alive (omega (arith, few)) (eqb-true (length bs) 512 p.0) (ap (F k0) (omega arith) ∙ aim 0 (omega arith)) x fine in
-      let rest = slots_passed k0 alive more (suc s) (writes_sector z w (volume_of k0) (8 * block_of k0 + s) bs x) one.fine (omega (arith, few)) p.1 (λ i l. ap (F k0) (omega arith) ∙ aim (suc i) (omega (arith, l))) in
-      passed_on (λ k i. (k ≡ k0) × (i ≡ s)) (λ k i. (k ≡ k0) × (suc s ≤ i) × (i < suc s + length more)) (λ k i. (k ≡ k0) × (s ≤ i) × (i < s + suc (length more))) x
-      (writes_sector z w (volume_of k0) (8 * block_of k0 + s) bs x) (writes_slots z w (volume_of k0) (block_of k0) (suc s) more (writes_sector z w (volume_of k0) (8 * block_of k0 + s) bs x)) (λ k i m t. parts k i t.0 t.1 t.2) one rest
+      let one = sector_passed key s bs alive (omega (arith, few)) (eqb-true (length bs) 512 p.0) (ap (F key) (omega arith) ∙ aim 0 (omega arith)) x fine in
+      let rest = slots_passed key alive more (suc s) (writes_sector z w (volume_of key) (8 * block_of key + s) bs x) one.fine (omega (arith, few)) p.1 (λ i l. ap (F key) (omega arith) ∙ aim (suc i) (omega (arith, l))) in
+      passed_on (λ k i. (k ≡ key) × (i ≡ s)) (λ k i. (k ≡ key) × (suc s ≤ i) × (i < suc s + length more)) (λ k i. (k ≡ key) × (s ≤ i) × (i < s + suc (length more))) x
+      (writes_sector z w (volume_of key) (8 * block_of key + s) bs x) (writes_slots z w (volume_of key) (block_of key) (suc s) more (writes_sector z w (volume_of key) (8 * block_of key + s) bs x)) (λ k i m t. parts k i t.0 t.1 t.2) one rest
     where
-      parts : (k i : ℕ) → k ≡ k0 → s ≤ i → i < s + suc (length more) → ((k ≡ k0) × (i ≡ s)) ⊎ ((k ≡ k0) × (suc s ≤ i) × (i < suc s + length more))
+      parts : (k i : ℕ) → k ≡ key → s ≤ i → i < s + suc (length more) → ((k ≡ key) × (i ≡ s)) ⊎ ((k ≡ key) × (suc s ≤ i) × (i < suc s + length more))
       parts k i e l m = of (cases_eq i s)
         where
-          of : (i ≡ s) ⊎ (i ≡ s → ⊥) → ((k ≡ k0) × (i ≡ s)) ⊎ ((k ≡ k0) × (suc s ≤ i) × (i < suc s + length more))
+          of : (i ≡ s) ⊎ (i ≡ s → ⊥) → ((k ≡ key) × (i ≡ s)) ⊎ ((k ≡ key) × (suc s ≤ i) × (i < suc s + length more))
           of (inl f) = inl (e, f)
           of (inr f) = inr (e, omega (arith, l, f), omega (arith, m))
 

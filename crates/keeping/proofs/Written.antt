@@ -63,14 +63,14 @@ module _ (size : ℕ) (r : Service) (w : ℕ) (cs : List (Change Block)) (h : He
   abbrev F : ℕ → ℕ → List ℕ
   F k i = get_or (overwritten cs (look_held h) k) i []
 
-  abbrev x0 : Held
-  x0 = tidied_held r h
+  abbrev before : Held
+  before = tidied_held r h
 
-  abbrev x1 : Held
-  x1 = writes_all true w (due r cs) (tidied_held r h)
+  abbrev between : Held
+  between = writes_all true w (due r cs) (tidied_held r h)
 
-  abbrev x2 : Held
-  x2 = writes_all false w (due r cs) (writes_all true w (due r cs) (tidied_held r h))
+  abbrev after : Held
+  after = writes_all false w (due r cs) (writes_all true w (due r cs) (tidied_held r h))
 
   aims : AllByRecursion (λ (c : Change Block). (is_gone r c.key ≡ false) × (is_whole c.block ≡ true) × ((i : ℕ) → F c.key i ≡ get_or c.block i [])) (due r cs)
   aims = of (due r cs) (due_aims r cs (look_held h))
@@ -80,11 +80,11 @@ module _ (size : ℕ) (r : Service) (w : ℕ) (cs : List (Change Block)) (h : He
       of [] a = tt
       of (d ∷ ds) a = ((a.0.0, a.0.1, λ i. ap (λ (b : Block). get_or b i []) a.0.2), of ds a.1)
 
-  zeros_pass : Passed size r w F true (λ k i. changes_key k (due r cs) ≡ true) x0 x1
-  zeros_pass = all_passed size r w F true (due r cs) x0 (tidied_fine size r h g) aims
+  zeros_pass : Passed size r w F true (λ k i. changes_key k (due r cs) ≡ true) before between
+  zeros_pass = all_passed size r w F true (due r cs) before (tidied_fine size r h g) aims
 
-  bytes_pass : Passed size r w F false (λ k i. changes_key k (due r cs) ≡ true) x1 x2
-  bytes_pass = all_passed size r w F false (due r cs) x1 zeros_pass.fine aims
+  bytes_pass : Passed size r w F false (λ k i. changes_key k (due r cs) ≡ true) between after
+  bytes_pass = all_passed size r w F false (due r cs) between zeros_pass.fine aims
 
   pub write_good : Good size (write_held r w cs h)
   unfolding write_held
@@ -95,7 +95,7 @@ module _ (size : ℕ) (r : Service) (w : ℕ) (cs : List (Change Block)) (h : He
     nonzero k alive e = let v = has_volume r k alive in absurd (omega (arith, v.1, e))
 
     -- what doesn't change is what it is to be
-    as_was : (k i : ℕ) → is_gone r k ≡ false → i < 8 → changes_key k cs ≡ false → slot_of x0 k i ≡ F k i
+    as_was : (k i : ℕ) → is_gone r k ≡ false → i < 8 → changes_key k cs ≡ false → slot_of before k i ≡ F k i
     as_was k i alive l e = tidied_slot size r h g k i alive ∙ sym (slot_looked h k i l) ∙ sym (ap (λ (b : Block). get_or b i []) (untouched cs (look_held h) k e))
 
     still : (x y : Held) (k i : ℕ) → slot_of x k i ≡ F k i → (slot_of y k i ≡ slot_of x k i) ⊎ (slot_of y k i ≡ F k i) → slot_of y k i ≡ F k i
@@ -103,16 +103,16 @@ module _ (size : ℕ) (r : Service) (w : ℕ) (cs : List (Change Block)) (h : He
     still x y k i e (inr q) = q
 
     -- after the first pass what is to be zeros is zeros
-    zeroed : (k i : ℕ) → is_gone r k ≡ false → i < 8 → all_zero (F k i) ≡ true → slot_of x1 k i ≡ F k i
+    zeroed : (k i : ℕ) → is_gone r k ≡ false → i < 8 → all_zero (F k i) ≡ true → slot_of between k i ≡ F k i
     zeroed k i alive l z = go (changes_key k cs) refl
       where
-        go : (t : Bool) → changes_key k cs ≡ t → slot_of x1 k i ≡ F k i
+        go : (t : Bool) → changes_key k cs ≡ t → slot_of between k i ≡ F k i
         go true e =
             zeros_pass.reached (λ y fine m j s bs a few long b. zeros_set (volume_of j) (8 * block_of j + s) w bs y b) k i (due_covers r cs (look_held h) k alive (whole_block (overwritten cs (look_held h) k) (has.blocks k alive)) e) (nonzero k alive) l z
-        go false e = still x0 x1 k i (as_was k i alive l e) (zeros_pass.moves.toward k i (nonzero k alive) l)
+        go false e = still before between k i (as_was k i alive l e) (zeros_pass.moves.toward k i (nonzero k alive) l)
 
     -- from there on what isn't zeros is to be none
-    none_more : (y : Held) → Moves w F x1 y → (k i : ℕ) → is_gone r k ≡ false → i < 8 → one (not (all_zero (slot_of y k i))) ≤ one (not (all_zero (F k i)))
+    none_more : (y : Held) → Moves w F between y → (k i : ℕ) → is_gone r k ≡ false → i < 8 → one (not (all_zero (slot_of y k i))) ≤ one (not (all_zero (F k i)))
     unfolding one
     none_more y m k i alive l = go (all_zero (F k i)) refl
       where
@@ -121,10 +121,10 @@ module _ (size : ℕ) (r : Service) (w : ℕ) (cs : List (Change Block)) (h : He
         most false = omega arith
 
         go : (t : Bool) → all_zero (F k i) ≡ t → one (not (all_zero (slot_of y k i))) ≤ one (not (all_zero (F k i)))
-        go true e = omega (arith, ap (λ (bs : List ℕ). one (not (all_zero bs))) (still x1 y k i (zeroed k i alive l e) (m.toward k i (nonzero k alive) l)))
+        go true e = omega (arith, ap (λ (bs : List ℕ). one (not (all_zero bs))) (still between y k i (zeroed k i alive l e) (m.toward k i (nonzero k alive) l)))
         go false e = subst (λ (t : Bool). one (not (all_zero (slot_of y k i))) ≤ one (not t)) (sym e) (most (not (all_zero (slot_of y k i))))
 
-    fewer : (y : Held) → Moves w F x1 y → (k : ℕ) → is_gone r k ≡ false → filled (look_held y k) ≤ filled (overwritten cs (look_held h) k)
+    fewer : (y : Held) → Moves w F between y → (k : ℕ) → is_gone r k ≡ false → filled (look_held y k) ≤ filled (overwritten cs (look_held h) k)
     fewer y m k alive =
         sum_fewer (λ (s : List ℕ). one (not (all_zero s))) (look_held y k) (overwritten cs (look_held h) k) [] (eight_looked y k ∙ sym (has.blocks k alive).eight) (λ i. at i (cases_lt i 8))
       where
@@ -133,7 +133,7 @@ module _ (size : ℕ) (r : Service) (w : ℕ) (cs : List (Change Block)) (h : He
         at i (inr l) = omega (arith, none_filled, ap (λ (bs : List ℕ). one (not (all_zero bs))) (get_or_past (look_held y k) i [] (omega (arith, l, eight_looked y k))))
 
     -- so there is room for what is held
-    bounded : (y : Held) → Fine size r y → Moves w F x1 y → held y.kept.entries ≤ room
+    bounded : (y : Held) → Fine size r y → Moves w F between y → held y.kept.entries ≤ room
     unfolding look_held
     bounded y fine m =
         held_by_numbers.bounded size room y.data' y.kept (λ q. filled (overwritten cs (look_held h) q)) fine.good.sound fine.good.clean fine.good.blanks (λ j l. fine.good.small j) (λ j l u. below j u)
@@ -159,26 +159,26 @@ module _ (size : ℕ) (r : Service) (w : ℕ) (cs : List (Change Block)) (h : He
             let same : filled (block_shown y.data' y.kept e.volume.0 e.block.0) ≡ filled (look_held y (number_of (entry_key e))) = rw (v, b) refl in
             omega (arith, held_by_numbers.filled_used e.volume.0 e.block.0 y.data' y.kept, same, fewer y m (number_of (entry_key e)) (lives j (number_of (entry_key e)) u refl))
 
-    reached : (k i : ℕ) → is_gone r k ≡ false → i < 8 → slot_of x2 k i ≡ F k i
+    reached : (k i : ℕ) → is_gone r k ≡ false → i < 8 → slot_of after k i ≡ F k i
     reached k i alive l = go (all_zero (F k i)) refl (changes_key k cs) refl
       where
-        able : (y : Held) → Fine size r y → Moves w F x1 y → (j s : ℕ) (bs : List ℕ) → is_gone r j ≡ false → s < 8 → length bs ≡ 512 → all_zero bs ≡ false → sets_held (volume_of j) (8 * block_of j + s) bs w y ≡ None → ⊥
+        able : (y : Held) → Fine size r y → Moves w F between y → (j s : ℕ) (bs : List ℕ) → is_gone r j ≡ false → s < 8 → length bs ≡ 512 → all_zero bs ≡ false → sets_held (volume_of j) (8 * block_of j + s) bs w y ≡ None → ⊥
         able y fine m j s bs a few long b e = bytes_set size (volume_of j) (8 * block_of j + s) w bs y fine.good (omega (arith, fits, bounded y fine m)) e
 
-        go : (t : Bool) → all_zero (F k i) ≡ t → (c : Bool) → changes_key k cs ≡ c → slot_of x2 k i ≡ F k i
-        go true e c q = still x1 x2 k i (zeroed k i alive l e) (bytes_pass.moves.toward k i (nonzero k alive) l)
+        go : (t : Bool) → all_zero (F k i) ≡ t → (c : Bool) → changes_key k cs ≡ c → slot_of after k i ≡ F k i
+        go true e c q = still between after k i (zeroed k i alive l e) (bytes_pass.moves.toward k i (nonzero k alive) l)
         go false e true q = bytes_pass.reached able k i (due_covers r cs (look_held h) k alive (whole_block (overwritten cs (look_held h) k) (has.blocks k alive)) q) (nonzero k alive) l e
-        go false e false q = still x1 x2 k i (still x0 x1 k i (as_was k i alive l q) (zeros_pass.moves.toward k i (nonzero k alive) l)) (bytes_pass.moves.toward k i (nonzero k alive) l)
+        go false e false q = still between after k i (still before between k i (as_was k i alive l q) (zeros_pass.moves.toward k i (nonzero k alive) l)) (bytes_pass.moves.toward k i (nonzero k alive) l)
 
     pub write_looks : (k : ℕ) → is_gone r k ≡ false → look_held (write_held r w cs h) k ≡ overwritten cs (look_held h) k
     unfolding write_held
-    write_looks k alive = looks_as x2 k (overwritten cs (look_held h) k) (has.blocks k alive).eight (λ i l. reached k i alive l)
+    write_looks k alive = looks_as after k (overwritten cs (look_held h) k) (has.blocks k alive).eight (λ i l. reached k i alive l)
 
     pub write_ages : (k : ℕ) → is_gone r k ≡ false → (w ≤ age_at (write_held r w cs h) k) ⊎ ((overwritten cs (look_held h) k ≡ look_held h k) × (age_at h k ≤ age_at (write_held r w cs h) k))
     unfolding write_held
-    write_ages k alive = go ((moves_on w F x0 x1 x2 zeros_pass.moves bytes_pass.moves).aged k (nonzero k alive))
+    write_ages k alive = go ((moves_on w F before between after zeros_pass.moves bytes_pass.moves).aged k (nonzero k alive))
       where
-        go : (w ≤ age_at x2 k) ⊎ (((i : ℕ) → i < 8 → slot_of x2 k i ≡ slot_of x0 k i) × (age_at x0 k ≤ age_at x2 k)) → (w ≤ age_at x2 k) ⊎ ((overwritten cs (look_held h) k ≡ look_held h k) × (age_at h k ≤ age_at x2 k))
+        go : (w ≤ age_at after k) ⊎ (((i : ℕ) → i < 8 → slot_of after k i ≡ slot_of before k i) × (age_at before k ≤ age_at after k)) → (w ≤ age_at after k) ⊎ ((overwritten cs (look_held h) k ≡ look_held h k) × (age_at h k ≤ age_at after k))
         go (inl l) = inl l
         go (inr p) =
             let same : look_held h k ≡ overwritten cs (look_held h) k =
