@@ -15,11 +15,11 @@ use Rattle.served.specs.Blocks.{Block, empty_block, volume_of, block_of}
 use Rattle.served.specs.Room.{is_gone}
 use Rattle.served.specs.Served.{volume_service}
 use Rattle.keeping.specs.Keeping.{none_held, look_held, stamp_held, portion_held, take_held, Good}
-use Rattle.keeping.specs.Keeper.{StaysGood, AlwaysGood, Keeping, kept_on, keeper, DoesAsBare, KeeperKeeps, RoomFits}
+use Rattle.keeping.specs.Keeper.{StaysGood, AlwaysGood, AlwaysTidy, Keeping, kept_on, keeper, DoesAsBare, KeeperKeeps, RoomFits}
 use Rattle.keeping.proofs.Keys.{has_volume}
 use Rattle.keeping.proofs.Portions.{SaysOf, empty_where_free, portion_says, left_held, left_most, left_falls}
-use Rattle.keeping.proofs.Written.{write_good, write_looks, write_ages}
-use Rattle.keeping.proofs.Taking.{take_good}
+use Rattle.keeping.proofs.Written.{write_good, write_tidy, write_looks, write_ages}
+use Rattle.keeping.proofs.Taking.{take_good, take_fine}
 use Rattle.keeping.proofs.Taken.{TakenOver, took_in, took_out, took_floor}
 use Rattle.keeping.proofs.Fitting.{are_zeros, blank_place, blank_within, blank_entries}
 use Rattle.keeping.proofs.Fits.{portion_fits}
@@ -35,6 +35,9 @@ none_good size = record {
 
 pub stays_good : AlwaysGood
 stays_good size = record { none = none_good size; write = λ r w cs h g. write_good size r w cs h g; take = take_good size }
+
+pub stays_tidy : AlwaysTidy
+stays_tidy size = record { write = write_tidy size; take = λ r whole key next floor bs h m g n e. (take_fine size r whole key next floor bs h m (record { good = g; lives = n }) e).lives }
 
 none_looks : (size k : ℕ) → look_held (none_held size) k ≡ empty_block
 none_looks size k = empty_where_free (none_held size) k (go (index_of (volume_of k) (block_of k) (blank_kept size).entries))

@@ -12,7 +12,7 @@ use Rattle.pieces.specs.Replaces.{Held, sets_held}
 use Rattle.served.specs.Blocks.{Block, volume_of, block_of}
 use Rattle.served.specs.Room.{is_gone}
 use Rattle.served.proofs.Keys.{key_of-parts}
-use Rattle.keeping.specs.Keeping.{look_held, Good}
+use Rattle.keeping.specs.Keeping.{look_held, Good, NoneGone}
 use Rattle.keeping.proofs.Keys.{block_small, has_volume}
 use Rattle.keeping.proofs.Sets.{SetsHeld, sets_means}
 
@@ -45,13 +45,9 @@ eight_looked h k = refl
 pub looks_as : (h : Held) (k : ℕ) (b : Block) → length b ≡ 8 → ((i : ℕ) → i < 8 → slot_of h k i ≡ get_or b i []) → look_held h k ≡ b
 looks_as h k b l f = ext_get_or [] (look_held h k) b (omega (arith, l, eight_looked h k)) (λ i m. slot_looked h k i (omega (arith, m, eight_looked h k)) ∙ f i (omega (arith, m, eight_looked h k)))
 
--- no entry of a volume that isn't living
-abbrev pub Lives : Service → Held → Type 0
-Lives r h = (i : ℕ) → replaces.is_gone r.next r.heads (entry_at i h.kept) ≡ false
-
 pub record Fine (size : ℕ) (r : Service) (h : Held) : Type 0 where
   pub good : Good size h
-  pub lives : Lives r h
+  pub lives : NoneGone r h
 
 pub record Moves (w : ℕ) (F : ℕ → ℕ → List ℕ) (x y : Held) : Type 0 where
   pub toward : (k i : ℕ) → volume_of k ≢ 0 → i < 8 → (slot_of y k i ≡ slot_of x k i) ⊎ (slot_of y k i ≡ F k i)
@@ -92,7 +88,7 @@ module _ (w : ℕ) (F : ℕ → ℕ → List ℕ) where
             here : slot_of m key s ≡ F key s
             here = ap (λ (u : ℕ). shown m.data' m.kept u (8 * block_of key + s)) q ∙ y.found ∙ sym aim
 
-            lives : Lives r m
+            lives : NoneGone r m
             lives i = of (y.entries i)
               where
                 of : (entry_key (entry_at i m.kept) ≡ changes.key_of (suc v) ((8 * block_of key + s) / 8)) ⊎ (entry_at i m.kept ≡ entry_at i x.kept) → replaces.is_gone r.next r.heads (entry_at i m.kept) ≡ false

@@ -20,7 +20,7 @@ use Rattle.served.specs.Blocks.{Block, volume_of, block_of}
 use Rattle.served.specs.Room.{is_gone, HasRoom, IsBlock}
 use Rattle.served.proofs.Bounds.{room_bounds}
 use Rattle.served.proofs.Keys.{volume_of-key_of, block_of-key_of}
-use Rattle.keeping.specs.Keeping.{is_whole, look_held, tidied_held, due, writes_all, write_held, Good}
+use Rattle.keeping.specs.Keeping.{is_whole, look_held, tidied_held, due, writes_all, write_held, Good, NoneGone}
 use Rattle.keeping.proofs.Keys.{has_volume}
 use Rattle.keeping.proofs.Moves.{slot_of, age_at, slot_looked, eight_looked, looks_as, Fine, Moves, moves_on}
 use Rattle.keeping.proofs.Writing.{Passed, all_passed}
@@ -89,6 +89,10 @@ module _ (size : ℕ) (r : Service) (w : ℕ) (cs : List (Change Block)) (h : He
   pub write_good : Good size (write_held r w cs h)
   unfolding write_held
   write_good = bytes_pass.fine.good
+
+  pub write_tidy : NoneGone r (write_held r w cs h)
+  unfolding write_held
+  write_tidy = bytes_pass.fine.lives
 
   module _ (room : ℕ) (has : HasRoom room r (overwritten cs (look_held h))) (fits : room < places_of size) where
     nonzero : (k : ℕ) → is_gone r k ≡ false → volume_of k ≢ 0

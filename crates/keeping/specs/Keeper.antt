@@ -1,5 +1,6 @@
 -- The keeper of the volumes' blocks, for a device of a size and a room, and what is promised of it.
 -- Assumes nothing.
+use mathlib.Core.Path.{refl}
 use Rattle.std.specs.Prelude.{◌≡◌, ℕ, ◌<◌, ◌≤◌, Bool, List, Some, None, Option}
 use Rattle.std.specs.Option.{option_map}
 use Rattle.volumes.specs.Service.{Service}
@@ -9,7 +10,7 @@ use Rattle.pieces.specs.Layouts.{places_of, entries_of}
 use Rattle.pieces.specs.Replaces.{Held}
 use Rattle.served.specs.Blocks.{Block}
 use Rattle.served.specs.Served.{volume_service}
-use Rattle.keeping.specs.Keeping.{none_held, look_held, stamp_held, write_held, portion_held, take_held, Good}
+use Rattle.keeping.specs.Keeping.{none_held, look_held, stamp_held, write_held, portion_held, take_held, Good, NoneGone}
 
 -- the operations on what is kept
 abbrev pub bare_keeper : (size room : ℕ) → Keeper (volume_service room)
@@ -34,6 +35,14 @@ pub record StaysGood (size : ℕ) : Type 0 where
 abbrev pub AlwaysGood : Type 0
 AlwaysGood = (size : ℕ) → StaysGood size
 
+-- Nor is any entry of a volume that is gone.
+pub record StaysTidy (size : ℕ) : Type 0 where
+  pub write : (r : Service) (version : ℕ) (cs : List (Change Block)) (h : Held) → Good size h → NoneGone r (write_held r version cs h)
+  pub take : (r : Service) (whole : Bool) (key : ℕ) (next : Option ℕ) (floor : ℕ) (bs : List (Stamped Block)) (h m : Held) → Good size h → NoneGone r h → take_held r whole key next floor bs h ≡ Some m → NoneGone r m
+
+abbrev pub AlwaysTidy : Type 0
+AlwaysTidy = (size : ℕ) → StaysTidy size
+
 -- what is kept, with what always holds of it
 pub record Keeping (size : ℕ) : Type 0 where
   pub held : Held
@@ -41,7 +50,7 @@ pub record Keeping (size : ℕ) : Type 0 where
 
 abbrev pub kept_on : {size : ℕ} (o : Option Held) → ((m : Held) → o ≡ Some m → Good size m) → Option (Keeping size)
 kept_on None f = None
-kept_on (Some m) f = Some (record { held = m; good = f m (λ i. Some m) })
+kept_on (Some m) f = Some (record { held = m; good = f m refl })
 
 -- THE KEEPER
 abbrev pub keeper : (size room : ℕ) → StaysGood size → Keeper (volume_service room)

@@ -14,10 +14,12 @@ use Rattle.pieces.specs.Kept.{blank_kept, entry_at, stamp_of}
 use Rattle.pieces.specs.Meaning.{Sound, shown}
 use Rattle.pieces.specs.Changes as changes
 use Rattle.pieces.specs.Counts.{Clean, NoBlanks, block_shown, number_of}
+use Rattle.pieces.specs.Replaces as replaces
 use Rattle.pieces.specs.Replaces.{Held, Filled, sets_held, replaces, tidied}
 use Rattle.served.specs.Blocks.{Block, volume_of, block_of}
 use Rattle.served.specs.Room.{is_gone}
 
+-- nothing is kept
 abbrev pub none_held : (size : ℕ) → Held
 none_held size = record { kept = blank_kept size; data' = λ p. zeros 512 }
 
@@ -25,6 +27,7 @@ none_held size = record { kept = blank_kept size; data' = λ p. zeros 512 }
 abbrev pub key_at : ℕ → Key
 key_at k = changes.key_of (volume_of k) (block_of k)
 
+-- what a block holds, and the version at which it last changed
 unfoldable pub look_held : Held → ℕ → Block
 look_held h k = block_shown h.data' h.kept (volume_of k) (block_of k)
 
@@ -77,6 +80,7 @@ write_held r w cs h = writes_all false w (due r cs) (writes_all true w (due r cs
 abbrev pub most_listed : ℕ
 most_listed = 16
 
+-- after this version, or all
 abbrev pub since_of : (whole : Bool) → (base : ℕ) → Option Stamp
 since_of true base = None
 since_of false base = Some (record { 0 = base })
@@ -95,10 +99,10 @@ unfoldable pub in_order : (key : ℕ) → (next : Option ℕ) → List (Stamped 
 in_order key next [] = true
 in_order key next (b ∷ bs) = in_range key next b.key && (is_whole b.block && in_order (suc b.key) next bs)
 
+-- a block that comes, and those that aren't gone
 abbrev pub filled_with : Stamped Block → Filled
 filled_with b = record { volume = volume_of b.key; block = block_of b.key; stamp = b.stamp; sectors = b.block }
 
--- what isn't gone
 unfoldable pub filled_of : Service → List (Stamped Block) → List Filled
 filled_of r [] = []
 filled_of r (b ∷ bs) = cond (is_gone r b.key) (filled_of r bs) (filled_with b ∷ filled_of r bs)
@@ -117,3 +121,7 @@ pub record Good (size : ℕ) (h : Held) : Type 0 where
   pub blanks : NoBlanks h.data' h.kept
   pub small : (i : ℕ) → (entry_at i h.kept).block.0 < 137438953472
   pub whole : (p : ℕ) → length (h.data' p) ≡ 512
+
+-- no entry is of a volume that is gone
+abbrev pub NoneGone : Service → Held → Type 0
+NoneGone r h = (i : ℕ) → replaces.is_gone r.next r.heads (entry_at i h.kept) ≡ false

@@ -1,12 +1,14 @@
 // How a house keeps the volumes' blocks on its directory: what is done on what is kept, as a keeper.
 #![tactic(auto)]
 
-ghost use Rattle.keeping.specs.Keeper.{AlwaysGood, DoesAsBare, RoomFits};
+ghost use Rattle.keeping.specs.Keeper.{AlwaysGood, AlwaysTidy, DoesAsBare, RoomFits};
 ghost use Rattle.keeping.specs.Single.{WritesOne};
 
-// What always holds of what is kept stays so; the keeper does what is done on what is kept; and there are more places than there is room for.
+// What always holds of what is kept stays so, and nothing that is gone is kept; the keeper does what is done on what is kept; and there are
+// more places than there is room for.
 pub fn blocks_stay_good()
     ensures good { AlwaysGood }
+    ensures tidy { AlwaysTidy }
     ensures bare { DoesAsBare }
     ensures room { RoomFits }
 {}
