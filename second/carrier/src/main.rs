@@ -2,13 +2,13 @@
 use carrier::network::Network;
 use carrier::options::{self, Options};
 use carrier::player::Player;
-use carrier::process::Event;
+use carrier::process::{Event, MOST_EVENTS};
 use std::env::{args, temp_dir};
 use std::fs::{create_dir, create_dir_all, remove_dir_all};
 use std::io::{self, stdin, stdout};
 use std::path::{Path, PathBuf};
 use std::process::{ExitCode, id};
-use std::sync::mpsc::{Sender, channel};
+use std::sync::mpsc::{SyncSender, sync_channel};
 use std::thread::spawn;
 use std::time::UNIX_EPOCH;
 
@@ -31,14 +31,15 @@ fn run(mut options: Options) -> io::Result<bool> {
     // a house runs in a folder of its own
     options.program = options.program.canonicalize().map_err(|error| io::Error::other(format!("{}: {error}", options.program.display())))?;
     let folder = Folder::new(options.folder.take())?;
-    let (events, heard) = channel();
+    let (events, heard) = sync_channel(MOST_EVENTS);
     let tick = options.tick;
     let network = Network::new(options, folder.path().to_path_buf(), events.clone())?;
     spawn(move || read_script(&events));
-    Player::new(network, tick, stdout())?.play(&heard)
+    let mut player = Player::new(network, tick, stdout())?;
+    player.play(&heard)
 }
 
-fn read_script(events: &Sender<Event>) {
+fn read_script(events: &SyncSender<Event>) {
     let lines = stdin().lines().map_while(Result::ok).map(Some);
     for line in lines.chain([None]) {
         if events.send(Event::Script(line)).is_err() {

@@ -4,14 +4,14 @@ use crate::process::{Event, Running};
 use std::fs::{OpenOptions, create_dir_all};
 use std::io;
 use std::path::PathBuf;
-use std::sync::mpsc::Sender;
+use std::sync::mpsc::SyncSender;
 
 const SECTOR: u64 = 512;
 
 pub struct Network {
     options: Options,
     folder: PathBuf,
-    events: Sender<Event>,
+    events: SyncSender<Event>,
     houses: Vec<Option<Running>>,
     /// how many processes were started
     starts: u64,
@@ -19,7 +19,7 @@ pub struct Network {
 
 impl Network {
     /// Makes the devices that are missing, and starts all houses.
-    pub fn new(options: Options, folder: PathBuf, events: Sender<Event>) -> io::Result<Network> {
+    pub fn new(options: Options, folder: PathBuf, events: SyncSender<Event>) -> io::Result<Network> {
         let houses = (0..options.houses).map(|_| None).collect();
         let mut network = Network { options, folder, events, houses, starts: 0 };
         for house in 0..network.houses() {
@@ -66,9 +66,9 @@ impl Network {
         self.houses[house].take().is_some()
     }
 
-    /// The house, if this start of it is the one that runs.
-    pub fn running(&mut self, house: usize, start: u64) -> Option<&mut Running> {
-        self.houses[house].as_mut().filter(|running| running.start == start)
+    /// Whether this start of a house is the one that runs.
+    pub fn is_running(&self, house: usize, start: u64) -> bool {
+        self.houses[house].as_ref().is_some_and(|running| running.start == start)
     }
 
     /// How a house that closed its outputs ended, in words.
@@ -94,13 +94,20 @@ impl Network {
         }
     }
 
+    /// A house has done a line that it was told.
+    pub fn has_done(&mut self, house: usize) {
+        if let Some(running) = &mut self.houses[house] {
+            running.has_done();
+        }
+    }
+
     pub fn tick(&mut self) {
         for running in self.houses.iter_mut().flatten().filter(|running| running.wants_tick()) {
             running.tick();
         }
     }
 
-    /// Shows the front of a line to a house, from it, or lost before it.
+    /// Shows the front of a line to a house (<), from it (>), or lost before it (x).
     pub fn trace(&self, house: usize, way: char, line: &str) {
         if self.options.trace {
             let front: String = line.chars().take(100).collect();

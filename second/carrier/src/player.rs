@@ -168,18 +168,12 @@ impl<W: Write> Player<W> {
     }
 
     fn hear(&mut self, house: usize, start: u64, news: News) -> io::Result<()> {
-        let Some(running) = self.network.running(house, start) else {
+        if !self.network.is_running(house, start) {
             // what a process had printed that was killed
             return Ok(());
-        };
+        }
         match news {
-            News::Printed(line) => {
-                if line == "done" {
-                    running.has_done();
-                }
-                self.network.trace(house, '>', &line);
-                self.heed(house, &line)
-            }
+            News::Printed(line) => self.heed(house, &line),
             News::Complained(line) => writeln!(self.out, "house {house} complains: {line}"),
             News::Closed => {
                 if let Some(ended) = self.network.ended(house) {
@@ -192,14 +186,21 @@ impl<W: Write> Player<W> {
 
     /// Does what a house prints.
     fn heed(&mut self, house: usize, line: &str) -> io::Result<()> {
-        match printed::parse(line, self.network.houses()) {
+        let said = printed::parse(line, self.network.houses());
+        if said != Some(Line::Done) {
+            self.network.trace(house, '>', line);
+        }
+        match said {
+            Some(Line::Done) => {
+                self.network.has_done(house);
+                Ok(())
+            }
             Some(Line::To(to, packet)) => {
                 self.network.carry(house, to, packet);
                 Ok(())
             }
             Some(Line::Answer(number, bytes)) => self.answer(house, number, &bytes),
             Some(Line::Refused) => writeln!(self.out, "house {house} refuses a line"),
-            Some(Line::Done) => Ok(()),
             None => writeln!(self.out, "house {house} prints what is none of its lines: {line}"),
         }
     }

@@ -2,7 +2,7 @@
 use std::io::{self, BufRead, BufReader, Read, Write};
 use std::path::Path;
 use std::process::{Child, ChildStdin, Command, Stdio};
-use std::sync::mpsc::{Receiver, Sender, channel};
+use std::sync::mpsc::{Receiver, Sender, SyncSender, channel};
 use std::thread::{sleep, spawn};
 use std::time::{Duration, Instant};
 
@@ -11,6 +11,9 @@ const MOST_OWED: u64 = 256;
 
 /// How long a process that closed its pipes has to exit.
 const LAST: Duration = Duration::from_secs(1);
+
+/// So many events may wait to be heard; then a house waits until it can print more.
+pub const MOST_EVENTS: usize = 64;
 
 /// What the threads tell.
 pub enum Event {
@@ -42,7 +45,7 @@ pub struct Running {
 
 impl Running {
     /// Starts a house in its folder.
-    pub fn start(program: &Path, folder: &Path, house: usize, houses: usize, start: u64, events: &Sender<Event>) -> io::Result<Running> {
+    pub fn start(program: &Path, folder: &Path, house: usize, houses: usize, start: u64, events: &SyncSender<Event>) -> io::Result<Running> {
         let mut child = Command::new(program)
             .args([house, houses].map(|number| number.to_string()))
             .current_dir(folder)

@@ -124,6 +124,15 @@ fn a_house_that_reads_nothing_holds_nobody_up() {
 }
 
 #[test]
+fn a_house_that_prints_without_end_holds_nobody_up() {
+    let (lines, code) = played(&[], "at 2 make 1000005\npause 20\nat 1 make 100\npause 20\nkill 2\nwait\nstart 2\nat 2 attach 1\nwait");
+    for line in ["call 1: gone with house 2", "call 2: number 1", "call 3: token 1 size 100"] {
+        assert!(lines.contains(&line.to_string()), "{line}");
+    }
+    assert_eq!(code, Some(0));
+}
+
+#[test]
 fn a_wait_that_fails_ends_the_script() {
     plays(
         "at 1 make 1000002\nwait 20\nat 2 make 100",

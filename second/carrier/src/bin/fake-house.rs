@@ -21,6 +21,9 @@ const STUCK: u64 = 1_000_003;
 /// It prints what is none of its lines, and the answer to a call that nobody made, and goes on.
 const BABBLES: u64 = 1_000_004;
 
+/// It prints packets to itself without end.
+const FLOODS: u64 = 1_000_005;
+
 struct House {
     me: usize,
     waiting: BTreeMap<u64, Vec<u8>>,
@@ -67,6 +70,9 @@ impl House {
             }
             Ok((1, SILENT)) => return Ok(()),
             Ok((1, STUCK)) => sleep(Duration::MAX),
+            Ok((1, FLOODS)) => loop {
+                say(&format!("to {} 00", self.me))?;
+            },
             Ok((1, BABBLES)) => say("how do you do").and_then(|()| say("answer 1 01"))?,
             _ => {}
         }
