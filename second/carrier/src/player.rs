@@ -59,7 +59,7 @@ impl<W: Write> Player<W> {
             while self.is_free()? {
                 match self.script.pop_front() {
                     Some(Some(line)) => self.obey(&line)?,
-                    Some(None) => return Ok(self.sound),
+                    Some(None) => return self.end(),
                     None => break,
                 }
             }
@@ -99,12 +99,16 @@ impl<W: Write> Player<W> {
     }
 
     fn fail(&mut self, most: Duration) -> io::Result<()> {
-        for Waiting { call, house, .. } in self.waiting.values() {
-            writeln!(self.out, "call {call} at {house} is not answered after a wait of {}", Milliseconds(most))?;
-        }
         self.sound = false;
         self.script = VecDeque::from([None]);
-        Ok(())
+        writeln!(self.out, "waited for {}, no longer", Milliseconds(most))
+    }
+
+    fn end(&mut self) -> io::Result<bool> {
+        for Waiting { call, house, .. } in self.waiting.values() {
+            writeln!(self.out, "call {call} at {house} is not answered")?;
+        }
+        Ok(self.sound)
     }
 
     fn obey(&mut self, line: &str) -> io::Result<()> {

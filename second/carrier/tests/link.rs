@@ -137,9 +137,15 @@ fn a_wait_that_fails_ends_the_script() {
     plays(
         "at 1 make 1000002\nwait 20\nat 2 make 100",
         "call 1 at 1: make 1000002
-call 1 at 1 is not answered after a wait of 20.0 ms",
+waited for 20.0 ms, no longer
+call 1 at 1 is not answered",
         1,
     );
+}
+
+#[test]
+fn nobody_has_to_wait() {
+    plays("at 1 make 1000002", "call 1 at 1: make 1000002\ncall 1 at 1 is not answered", 0);
 }
 
 #[test]
