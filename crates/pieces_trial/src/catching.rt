@@ -1,6 +1,6 @@
 // Two directories: one changes, and the other catches up in parts, of what changed or of all. Sometimes it went its own way before.
 use crate::chances::index;
-use crate::part::FIRST;
+use crate::part::{FIRST, Part};
 use crate::trial::{Trial, count};
 use anyhow::anyhow;
 use memory_disk::random::Random;
@@ -11,7 +11,7 @@ use std::fmt;
 const MOST_PASSES: u64 = 1000;
 
 // How many sectors are set while it goes its own way.
-const OWN_CHANGES: u64 = 40;
+const OWN_CHANGES: u64 = 600;
 
 #[derive(Clone, Copy, Default)]
 pub struct Counts {
@@ -19,16 +19,36 @@ pub struct Counts {
     passes: u64,
     parts: u64,
     whole: u64,
-    begun: u64,
+    blocks: u64,
     opened: u64,
+    begun: u64,
+    compared: u64,
+}
+
+impl Counts {
+    // A part is taken over.
+    fn add(&mut self, part: &Part) {
+        count(&mut self.parts);
+        if part.whole {
+            count(&mut self.whole);
+        }
+        self.blocks = self.blocks.saturating_add(part.blocks.len() as u64);
+    }
 }
 
 impl fmt::Display for Counts {
     fn fmt<W: fmt::Write>(&self, f: &mut fmt::Formatter<W>) -> fmt::Result {
         write!(
             f,
-            "caught up {}, passes {}, parts {}, of these whole {}, opened within {}, begun from nothing {}",
-            self.level, self.passes, self.parts, self.whole, self.opened, self.begun
+            "caught up {}, passes {}, parts {}, of these whole {}, blocks {}, opened within {}, begun from nothing {}, sectors compared {}",
+            self.level,
+            self.passes,
+            self.parts,
+            self.whole,
+            self.blocks,
+            self.opened,
+            self.begun,
+            self.compared
         )
     }
 }
@@ -79,10 +99,7 @@ impl Pair {
         for _ in 0..u64::MAX {
             let since = self.since();
             let part = self.ahead.part(since, from)?;
-            count(&mut self.counts.parts);
-            if part.whole {
-                count(&mut self.counts.whole);
-            }
+            self.counts.add(&part);
             if !self.behind.take(&part)? {
                 self.begin_again()?;
                 return Ok(false);
@@ -125,9 +142,10 @@ impl Pair {
 
     fn compare(&mut self) -> anyhow::Result<()> {
         self.behind.compare()?;
-        self.behind.compare_listed(0)?;
+        let compared = self.ahead.matches(&self.behind)?;
         self.behind.matches(&self.ahead)?;
-        self.ahead.matches(&self.behind)
+        self.counts.compared = self.counts.compared.saturating_add(compared);
+        Ok(())
     }
 
     // The one that is behind sets sectors that the other doesn't.
@@ -163,5 +181,6 @@ pub fn catching(heap: Global, seed: u64, steps: u64) -> anyhow::Result<Counts> {
         pair.step()?;
     }
     pair.catch_up()?;
+    pair.behind.compare_listed(0)?;
     Ok(pair.counts)
 }

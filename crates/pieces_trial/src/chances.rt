@@ -25,7 +25,7 @@ fn drawn(random: &mut Random) -> u64 {
     if random.below(2) == 0 {
         near
     } else {
-        random.below(40).wrapping_mul(8192).wrapping_add(near)
+        random.below(200).wrapping_mul(8192).wrapping_add(near)
     }
 }
 

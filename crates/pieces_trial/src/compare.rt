@@ -1,6 +1,6 @@
 // The directory beside the map: each sector that was written, and the blocks that changed.
 use crate::part::FIRST;
-use crate::trial::{Trial, WRONG, count};
+use crate::trial::{Trial, count};
 use anyhow::anyhow;
 use pieces::entry::{Block, Stamp};
 use wire::number::*;
@@ -50,16 +50,18 @@ impl Trial {
         }
         Ok(listed)
     }
-    // In each sector this and another hold the same, and no block of this is known to be younger.
-    pub(crate) fn matches(&self, other: &Trial) -> anyhow::Result<()> {
+    // In each sector of this map both hold the same, and of no block the other knows an older change. How many sectors these are.
+    pub(crate) fn matches(&self, other: &Trial) -> anyhow::Result<u64> {
+        let mut compared = 0u64;
         for key in self.model.keys() {
             let at = Address {
                 volume: Volume(key.0),
                 sector: Sector(key.1),
             };
             if self.read(at)? != other.read(at)? {
-                return Err(anyhow!("{WRONG}"));
+                return Err(anyhow!("what was taken over isn't the same"));
             }
+            count(&mut compared);
         }
         for (key, stamp) in self.stamps.iter() {
             let known = other.pieces.stamp(Volume(key.0), Block(key.1));
@@ -67,6 +69,6 @@ impl Trial {
                 return Err(anyhow!("a block that was taken over is older than it was"));
             }
         }
-        Ok(())
+        Ok(compared)
     }
 }

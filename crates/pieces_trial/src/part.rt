@@ -126,7 +126,11 @@ impl Trial {
             self.write_entry(*entry)?;
         }
         for written in replaced.sectors.as_slice() {
-            self.write_data(written.place, written.bytes[0])?;
+            let byte = written.bytes[0];
+            if written.bytes != [byte; SECTOR_BYTES] {
+                return Err(anyhow!("{WRONG}"));
+            }
+            self.write_data(written.place, byte)?;
         }
         self.floor = self.pieces.floor();
         Ok(())

@@ -67,7 +67,7 @@ pub fn sparse(heap: Global) -> anyhow::Result<(u64, u64)> {
     trial.make()?;
     let places = trial.pieces.layout().places();
     for piece in 0..places {
-        if !trial.set(address(Volume(1), piece.wrapping_mul(8192)), 7)? {
+        if !trial.set(address(Volume(1), piece.wrapping_mul(4096)), 7)? {
             return Err(anyhow!("it is full too early"));
         }
         if piece == REOPENED {
@@ -79,18 +79,18 @@ pub fn sparse(heap: Global) -> anyhow::Result<(u64, u64)> {
         return Err(anyhow!("more fits than there are places"));
     }
     for piece in 0..500 {
-        if !trial.set(address(Volume(1), piece * 8192), 0)? {
+        if !trial.set(address(Volume(1), piece * 4096), 0)? {
             return Err(anyhow!("zeros need no room"));
         }
     }
     for piece in 0..500 {
-        if !trial.set(address(Volume(2), piece * 8192), 9)? {
+        if !trial.set(address(Volume(2), piece * 4096), 9)? {
             return Err(anyhow!("no marker is given up"));
         }
     }
     for piece in 0..1000 {
-        trial.shows(address(Volume(1), piece * 8192))?;
-        trial.shows(address(Volume(2), piece * 8192))?;
+        trial.shows(address(Volume(1), piece * 4096))?;
+        trial.shows(address(Volume(2), piece * 4096))?;
     }
     Ok((places, trial.floor.0))
 }
