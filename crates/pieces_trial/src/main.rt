@@ -1,11 +1,17 @@
 // Plays writes, droppings and reopenings by chance against a plain map, and fills a device to twice its room, densely and as sparsely as can be.
 #![tactic(auto)]
 
+mod catching;
+mod chances;
+mod compare;
+mod gone;
+mod part;
 mod plays;
 mod trial;
 
 use anyhow::Context;
 use arguments::two;
+use catching::catching;
 use plays::{dense, random, sparse};
 use std::env;
 
@@ -22,6 +28,8 @@ fn run(rt: &HostRuntime) -> anyhow::Result<()> {
     let heap = rt.alloc();
     let counts = random(heap, seed, steps)?;
     println!(rt; "steps {steps}: {counts}")?;
+    let counts = catching(heap, seed, steps)?;
+    println!(rt; "of two {counts}")?;
     let (places, markers) = dense(heap)?;
     println!(rt; "dense: {places} sectors fit, one more doesn't; {markers} blocks changed")?;
     let (places, floor) = sparse(heap)?;

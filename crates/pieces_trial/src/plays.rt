@@ -1,7 +1,8 @@
 // What is played: writes, droppings, reopenings and beginnings by chance, and a device filled to twice its room.
 ghost use Rattle.std.specs.Prelude.{◌≡◌, IfOk};
 
-use crate::trial::{Counts, Trial, WRONG};
+use crate::chances::{address, index};
+use crate::trial::{Counts, Trial};
 use anyhow::anyhow;
 use memory_disk::random::Random;
 use std::alloc::Global;
@@ -10,50 +11,19 @@ use wire::number::*;
 // After how many pieces of the sparse filling it is loaded again: loading looks through all pieces for each entry.
 const REOPENED: u64 = 4000;
 
-// How many volumes live at a time.
-const VOLUMES: u64 = 4;
-
-fn address(volume: Volume, sector: u64) -> Address {
-    Address {
-        volume,
-        sector: Sector(sector),
-    }
-}
-
-// A sector, of a few that stand close, or of a few that stand apart.
-fn drawn(random: &mut Random) -> u64 {
-    let near = random.below(24);
-    if random.below(2) == 0 {
-        near
-    } else {
-        random.below(40).wrapping_mul(8192).wrapping_add(near)
-    }
-}
-
 pub fn random(heap: Global, seed: u64, steps: u64) -> anyhow::Result<Counts> {
     let mut random = Random::new(seed);
-    let mut trial = Trial::new(heap)?;
-    for _ in 0..VOLUMES {
-        trial.make()?;
-    }
+    let mut trial = Trial::with_volumes(heap)?;
     for _ in 0..steps {
-        let index = random.below(VOLUMES) as usize;
-        let volume = trial.heads.get(index).ok_or(anyhow!("{WRONG}"))?.number;
         match random.below(800) {
             0..=3 => {
                 trial.open()?;
                 trial.compare()?;
             }
-            4..=7 => trial.forget(index)?,
+            4..=6 => trial.forget(index(&mut random))?,
+            7 => trial.forget_some(&mut random)?,
             8 => trial.begin_again()?,
-            _ => {
-                let at = address(volume, drawn(&mut random));
-                let byte = (random.below(4) & 0xff) as u8;
-                if !trial.set(at, byte)? {
-                    return Err(anyhow!("there is room, but it wasn't found"));
-                }
-                trial.shows(at)?;
-            }
+            _ => trial.change(&mut random)?,
         }
     }
     let half = trial.version / 2;
@@ -97,7 +67,7 @@ pub fn sparse(heap: Global) -> anyhow::Result<(u64, u64)> {
     trial.make()?;
     let places = trial.pieces.layout().places();
     for piece in 0..places {
-        if !trial.set(address(Volume(1), piece.wrapping_mul(8192)), 7)? {
+        if !trial.set(address(Volume(1), piece.wrapping_mul(4096)), 7)? {
             return Err(anyhow!("it is full too early"));
         }
         if piece == REOPENED {
@@ -109,18 +79,18 @@ pub fn sparse(heap: Global) -> anyhow::Result<(u64, u64)> {
         return Err(anyhow!("more fits than there are places"));
     }
     for piece in 0..500 {
-        if !trial.set(address(Volume(1), piece * 8192), 0)? {
+        if !trial.set(address(Volume(1), piece * 4096), 0)? {
             return Err(anyhow!("zeros need no room"));
         }
     }
     for piece in 0..500 {
-        if !trial.set(address(Volume(2), piece * 8192), 9)? {
+        if !trial.set(address(Volume(2), piece * 4096), 9)? {
             return Err(anyhow!("no marker is given up"));
         }
     }
     for piece in 0..1000 {
-        trial.shows(address(Volume(1), piece * 8192))?;
-        trial.shows(address(Volume(2), piece * 8192))?;
+        trial.shows(address(Volume(1), piece * 4096))?;
+        trial.shows(address(Volume(2), piece * 4096))?;
     }
     Ok((places, trial.floor.0))
 }

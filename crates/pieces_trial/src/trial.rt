@@ -22,7 +22,7 @@ pub(crate) const WRONG: &str = "the directory isn't what the map is";
 #[derive(Clone, Copy, Default)]
 pub struct Counts {
     sets: u64,
-    forgotten: u64,
+    pub(crate) forgotten: u64,
     opened: u64,
     begun: u64,
     compared: u64,
@@ -38,7 +38,7 @@ impl fmt::Display for Counts {
     }
 }
 
-fn count(n: &mut u64) {
+pub(crate) fn count(n: &mut u64) {
     *n = n.saturating_add(1);
 }
 
@@ -47,24 +47,24 @@ type Model = BTreeMap<(u64, u64), u8>;
 
 #[derive(Drop)]
 pub(crate) struct Trial {
-    heap: Global,
+    pub(crate) heap: Global,
     pub(crate) pieces: Pieces,
     // what is on the device: the directory's sectors, and by their places what data's sectors are filled with
     directory: Vec<[u8; SECTOR_BYTES]>,
     data: Vec<u8>,
-    model: Model,
+    pub(crate) model: Model,
     // by volume and block: when it last changed
-    stamps: BTreeMap<(u64, u64), u64>,
+    pub(crate) stamps: BTreeMap<(u64, u64), u64>,
     generation: u64,
     // the next volume's number, and those that live
-    next: u64,
+    pub(crate) next: u64,
     pub(crate) heads: Vec<Head>,
     pub(crate) version: u64,
     pub(crate) floor: Stamp,
     pub(crate) counts: Counts,
 }
 
-fn head(volume: u64) -> Head {
+pub(crate) fn head(volume: u64) -> Head {
     Head {
         number: Volume(volume),
         size: Size(LEAST_SIZE),
@@ -102,25 +102,37 @@ impl Trial {
         })
     }
 
+    // A sector of data goes to the device.
+    pub(crate) fn write_data(&mut self, place: u64, byte: u8) -> anyhow::Result<()> {
+        let at = self.data.get_mut(place as usize).ok_or(anyhow!("{WRONG}"))?;
+        *at = byte;
+        Ok(())
+    }
+
+    // So does the sector of the directory that has this entry.
+    pub(crate) fn write_entry(&mut self, entry: usize) -> anyhow::Result<()> {
+        let number = entry as u64 / SECTOR_ENTRIES;
+        if number >= self.pieces.layout().directory_sectors() {
+            return Err(anyhow!("{WRONG}"));
+        }
+        let rendered = self
+            .pieces
+            .directory_sector(number, Generation(self.generation));
+        let at = self
+            .directory
+            .get_mut(number as usize)
+            .ok_or(anyhow!("{WRONG}"))?;
+        *at = rendered;
+        Ok(())
+    }
+
     // What is to be written for a sector goes to the device.
     fn write(&mut self, writes: Writes, byte: u8) -> anyhow::Result<()> {
         if let Some(place) = writes.place {
-            let at = self.data.get_mut(place as usize).ok_or(anyhow!("{WRONG}"))?;
-            *at = byte;
+            self.write_data(place, byte)?;
         }
         if let Some(entry) = writes.entry {
-            let number = entry as u64 / SECTOR_ENTRIES;
-            if number >= self.pieces.layout().directory_sectors() {
-                return Err(anyhow!("{WRONG}"));
-            }
-            let rendered = self
-                .pieces
-                .directory_sector(number, Generation(self.generation));
-            let at = self
-                .directory
-                .get_mut(number as usize)
-                .ok_or(anyhow!("{WRONG}"))?;
-            *at = rendered;
+            self.write_entry(entry)?;
         }
         if writes.floor {
             self.floor = self.pieces.floor();
@@ -147,15 +159,20 @@ impl Trial {
         }
     }
 
-    pub(crate) fn shows(&mut self, at: Address) -> anyhow::Result<()> {
-        let found = match self.pieces.find(at) {
+    // What a sector is filled with, as it is read.
+    pub(crate) fn read(&self, at: Address) -> anyhow::Result<u8> {
+        match self.pieces.find(at) {
             Some(place) => self
                 .data
                 .get(place as usize)
                 .copied()
-                .ok_or(anyhow!("{WRONG}"))?,
-            None => 0,
-        };
+                .ok_or(anyhow!("{WRONG}")),
+            None => Ok(0),
+        }
+    }
+
+    pub(crate) fn shows(&mut self, at: Address) -> anyhow::Result<()> {
+        let found = self.read(at)?;
         let wanted = self
             .model
             .get(&(at.volume.0, at.sector.0))
@@ -195,41 +212,6 @@ impl Trial {
         count(&mut self.counts.opened);
         Ok(())
     }
-}
-
-impl Trial {
-    // All that was written, and is there still.
-    pub(crate) fn compare(&mut self) -> anyhow::Result<()> {
-        let keys: Vec<(u64, u64)> = self.model.keys().copied().collect(self.heap)?;
-        for (volume, sector) in keys {
-            self.shows(Address {
-                volume: Volume(volume),
-                sector: Sector(sector),
-            })?;
-        }
-        Ok(())
-    }
-
-    // A volume more lives.
-    pub(crate) fn make(&mut self) -> anyhow::Result<Volume> {
-        let head = head(self.next);
-        count(&mut self.next);
-        self.heads.push(head)?;
-        Ok(head.number)
-    }
-
-    // A volume is gone, and another lives; nothing is written.
-    pub(crate) fn forget(&mut self, index: usize) -> anyhow::Result<()> {
-        let at = self.heads.get_mut(index).ok_or(anyhow!("{WRONG}"))?;
-        let gone = at.number;
-        *at = head(self.next);
-        count(&mut self.next);
-        self.pieces.forget(gone);
-        self.model.retain(|key, _| key.0 != gone.0);
-        self.stamps.retain(|key, _| key.0 != gone.0);
-        count(&mut self.counts.forgotten);
-        Ok(())
-    }
 
     // All begins again from nothing, under the next generation; nothing is written.
     pub(crate) fn begin_again(&mut self) -> anyhow::Result<()> {
@@ -240,41 +222,5 @@ impl Trial {
         self.floor = Stamp(0);
         count(&mut self.counts.begun);
         self.open()
-    }
-
-    // How many blocks are listed as changed after a version; each with the stamp that it has.
-    fn listed(&self, since: u64) -> anyhow::Result<u64> {
-        let mut from = Key {
-            volume: Volume(0),
-            block: Block(0),
-        };
-        let mut blocks = 0u64;
-        for _ in 0..u64::MAX {
-            let part = self
-                .pieces
-                .changed(self.heap, Some(Stamp(since)), from, 16)?;
-            for entry in part.blocks.as_slice() {
-                let stamp = self.stamps.get(&(entry.volume.0, entry.block.0)).copied();
-                if stamp != Some(entry.stamp.0) {
-                    return Err(anyhow!("a block is listed that didn't change"));
-                }
-                count(&mut blocks);
-            }
-            match part.next {
-                Some(next) => from = next,
-                None => break,
-            }
-        }
-        Ok(blocks)
-    }
-
-    // None that changed behind the floor is missing.
-    pub(crate) fn compare_listed(&self, since: u64) -> anyhow::Result<u64> {
-        let listed = self.listed(since)?;
-        let changed = self.stamps.values().filter(|stamp| **stamp > since).count();
-        if since >= self.floor.0 && listed != changed as u64 {
-            return Err(anyhow!("a block that changed isn't listed"));
-        }
-        Ok(listed)
     }
 }
