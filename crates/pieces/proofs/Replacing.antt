@@ -1,5 +1,5 @@
 -- What is listed to be written, step by step: what places hold then, and that no entry that changed is missing.
-use Rattle.std.proofs.Common.{◌≡◌, ◌⊎◌, inl, inr, ℕ, zero, suc, ◌+◌, ◌*◌, ◌/◌, ◌%◌, ◌<◌, ◌≤◌, Bool, true, false, cond, ◌||◌, ◌==◌, List, [], ◌∷◌, ◌++◌, drop, length, get_or, set, Some, None, Err, Option, Result, refl, sym, ap, ◌∙◌, subst, arith, add-one, nat_lt, vec_items}
+use Rattle.std.proofs.Common.{◌≡◌, ◌⊎◌, inl, inr, ℕ, zero, suc, ◌+◌, ◌*◌, ◌/◌, ◌%◌, ◌<◌, ◌≤◌, Bool, true, false, cond, ◌||◌, ◌==◌, List, [], ◌∷◌, ◌++◌, drop, length, get_or, Some, None, Err, Option, Result, refl, sym, ap, ◌∙◌, subst, arith, add-one, nat_lt, vec_items}
 use Rattle.std.specs.List.{count_by}
 use Rattle.std.specs.Option.{option_map}
 use Rattle.std.proofs.lemmas.List.{get_or-set_other, get_or_default, drop_more, at_drop_all}
