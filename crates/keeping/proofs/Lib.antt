@@ -1,0 +1,14 @@
+pub mod Keys
+pub mod Listed
+pub mod Portions
+pub mod Sets
+pub mod Moves
+pub mod Writing
+pub mod Due
+pub mod Tidying
+pub mod Written
+pub mod Taking
+pub mod Taken
+pub mod Fitting
+pub mod Fits
+pub mod Keeper
