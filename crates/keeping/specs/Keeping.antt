@@ -13,7 +13,8 @@ use Rattle.pieces.specs.declared.changed.Key.{Key}
 use Rattle.pieces.specs.Kept.{blank_kept, entry_at, stamp_of}
 use Rattle.pieces.specs.Meaning.{Sound, shown}
 use Rattle.pieces.specs.Changes as changes
-use Rattle.pieces.specs.Counts.{Clean, NoBlanks, block_shown, number_of}
+use Rattle.pieces.specs.Counts.{NoBlanks, block_shown, number_of}
+use Rattle.pieces.specs.Loading.{Clean}
 use Rattle.pieces.specs.Replaces.{Held, Filled, sets_held, replaces, tidied}
 use Rattle.served.specs.Blocks.{Block, volume_of, block_of}
 use Rattle.served.specs.Room.{is_gone}

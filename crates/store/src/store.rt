@@ -1,4 +1,11 @@
 // Heads and directory of a house, with what an event has read of its data and is to write.
+ghost use Rattle.std.specs.Prelude.{◌≡◌, OnOk};
+ghost use Rattle.store.specs.declared.store.Unserved.TheVariants as unserved;
+ghost use Rattle.pieces.specs.declared.set.Unset.TheVariants as unset;
+ghost use Rattle.pieces.specs.Replaces.{sets_held};
+ghost use Rattle.pieces.specs.Replacing.{with_entry};
+ghost use Rattle.store.specs.Stores.{the_held, sector_of, DoesHeld, no_place, SameBut};
+
 use crate::known::Known;
 use copies::number::Version;
 use journal::Place;
@@ -39,18 +46,24 @@ pub struct Store {
 }
 
 impl From<AllocError> for Unserved {
+    ghost from_gives = { λ e n. n ≡ unserved.NoMemory };
+
     fn from(_: AllocError) -> Unserved {
         Unserved::NoMemory
     }
 }
 
 impl<T: Drop> From<AllocFailed<T>> for Unserved {
+    ghost from_gives = { λ e n. n ≡ unserved.NoMemory };
+
     fn from(_: AllocFailed<T>) -> Unserved {
         Unserved::NoMemory
     }
 }
 
 impl From<Unset> for Unserved {
+    ghost from_gives = { λ e n. n ≡ no_place e };
+
     fn from(e: Unset) -> Unserved {
         match e {
             Unset::NoRoom => Unserved::NoRoom,
@@ -59,8 +72,23 @@ impl From<Unset> for Unserved {
     }
 }
 
+fn push_some(entries: &mut Vec<usize>, entry: Option<usize>) -> Result<(), AllocError>
+    ensures { OnOk result (entries.new.items ≡ with_entry entry entries.old.items) }
+{
+    if let Some(entry) = entry {
+        entries.push(entry)?;
+    }
+    Ok(())
+}
+
 impl Store {
-    pub fn new(heap: Global, size: u64, volumes: Volumes, pieces: Pieces, generation: Generation) -> Store {
+    pub fn new(
+        heap: Global,
+        size: u64,
+        volumes: Volumes,
+        pieces: Pieces,
+        generation: Generation,
+    ) -> Store {
         Store {
             heap,
             size,
@@ -86,7 +114,11 @@ impl Store {
     }
 
     // What places hold was read.
-    pub fn knows(&mut self, places: &[u64], sectors: &[[u8; SECTOR_BYTES]]) -> Result<(), AllocError> {
+    pub fn knows(
+        &mut self,
+        places: &[u64],
+        sectors: &[[u8; SECTOR_BYTES]],
+    ) -> Result<(), AllocError> {
         for (place, bytes) in places.iter().zip(sectors) {
             self.known.note(*place, *bytes)?;
         }
@@ -94,7 +126,10 @@ impl Store {
     }
 
     // What a sector of a volume holds.
-    pub(crate) fn sector(&self, at: Address) -> [u8; SECTOR_BYTES] {
+    #[tactic(auto, using(crate::proofs::Reading::content_none, crate::proofs::Reading::content_some), unfolding(disks::specs::Device::zeros))]
+    pub(crate) fn sector(&self, at: Address) -> [u8; SECTOR_BYTES]
+        ensures { result ≡ sector_of (the_held self.now) at.volume.0 at.sector.0 }
+    {
         match self.pieces.find(at) {
             Some(place) => self.known.get(place),
             None => BLANK_SECTOR,
@@ -102,16 +137,16 @@ impl Store {
     }
 
     // A sector holds this from now on.
-    pub(crate) fn put(&mut self, at: Address, bytes: &[u8; SECTOR_BYTES]) -> Result<(), Unserved> {
+    #[tactic(auto, using(crate::proofs::Setting::set_none, crate::proofs::Setting::memory_is_not_room))]
+    pub(crate) fn put(&mut self, at: Address, bytes: &[u8; SECTOR_BYTES]) -> Result<(), Unserved>
+        ensures held { DoesHeld (sets_held at.volume.0 at.sector.0 bytes.now self.old.version.0) (the_held self.old) result (the_held self.new) }
+        ensures same { SameBut self.old self.new }
+    {
         let writes = self
             .pieces
             .set(self.heap, at, bytes, Stamp(self.version.0))?;
-        if let Some(place) = writes.place {
-            self.known.put(place, *bytes)?;
-        }
-        if let Some(entry) = writes.entry {
-            self.entries.push(entry)?;
-        }
+        self.known.put_some(writes.place, *bytes)?;
+        push_some(&mut self.entries, writes.entry)?;
         self.directory = self.directory || writes.floor;
         Ok(())
     }
@@ -128,7 +163,13 @@ impl Store {
 
     // The heads are another copy's from now on.
     pub fn replaces(&mut self, rest: &Rest) -> Result<(), Unserved> {
-        let restored = Volumes::restored(self.heap, self.size, rest.next, rest.weight, &rest.heads)?;
+        let restored = Volumes::restored(
+            self.heap,
+            self.size,
+            rest.next,
+            rest.weight,
+            &rest.heads,
+        )?;
         let Some(volumes) = restored else {
             return Err(Unserved::Broken);
         };
