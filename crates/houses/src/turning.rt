@@ -1,0 +1,323 @@
+// An event: what comes is heard, places are read, work is done, all is stored in one transaction, and then it is sent.
+use crate::event::{Event, Output};
+use crate::house::{House, Stopped};
+use crate::outputs::*;
+use crate::reading::read_all;
+use copies::event::{Called, Heard};
+use copies::message::{Message, Part, Tail};
+use copies::number::{CallNumber, HouseNumber};
+use copies::run::applies;
+use copies::sessions::MOST_HOUSES;
+use copies::turn::{House as Copy, Turn, Work};
+use device::disk::{Disk, Failed};
+use device::put::put;
+use journal::state::{Journal, Write};
+use packets::areas::{AGREEING, session_area};
+use packets::block::Block;
+use packets::fault::Unread;
+use packets::identity::Identity;
+use packets::packet::Packet;
+use packets::rest::Rest;
+use packets::stored::*;
+use packets::text::Text;
+use std::alloc::Global;
+use std::mem;
+use store::parts::{Portion, may_hear};
+use store::store::Store;
+use store::writes::put_table;
+
+pub(crate) type Turning = Turn<Rest, Block, Text, Text>;
+
+pub(crate) type Working = Work<Rest, Block, Text, Text>;
+
+// In the midst of an event. goes_on: whether more is to be done when the work is; portion: blocks to be given; places: what is to be read.
+#[derive(Drop)]
+struct Midst {
+    turn: Turning,
+    work: Working,
+    goes_on: bool,
+    portion: Option<Portion>,
+    places: Vec<u64>,
+}
+
+#[derive(Drop)]
+enum Begun {
+    Passed(Copy<Text, Text>),
+    Busy(Copy<Text, Text>, CallNumber),
+    Midst(Midst),
+}
+
+// What an event leaves.
+#[derive(Drop)]
+pub struct Done {
+    pub house: House,
+    pub outputs: Vec<Output>,
+}
+
+impl Midst {
+    fn new(
+        heap: Global,
+        store: &Store,
+        mut turn: Turning,
+        goes_on: bool,
+    ) -> Result<Midst, Stopped> {
+        let work = turn.take_work();
+        let version = turn.house.agreeing.version;
+        let portion = match turn.sends.serves {
+            Some(serve) => Some(store.portion(heap, serve.want, version)?),
+            None => None,
+        };
+        let places = match (&work, &portion) {
+            (Work::Applies(command), _) => store.places_for(heap, command)?,
+            (_, Some(portion)) => store.places_of(heap, portion)?,
+            _ => Vec::new(heap),
+        };
+        Ok(Midst {
+            turn,
+            work,
+            goes_on,
+            portion,
+            places,
+        })
+    }
+}
+
+fn is_long(message: &Packet) -> bool {
+    matches!(message, Message::Status(_) | Message::Part(_))
+}
+
+fn heard(heap: Global, store: &Store, heard: Heard<Rest, Block, Text, Text>, goes_on: bool) -> Result<Begun, Stopped> {
+    match heard {
+        Heard::Passed(copy) => Ok(Begun::Passed(copy)),
+        Heard::Begun(turn) => Ok(Begun::Midst(Midst::new(heap, store, turn, goes_on)?)),
+    }
+}
+
+// A packet that is none is passed over.
+fn hears(
+    heap: Global,
+    copy: Copy<Text, Text>,
+    store: &Store,
+    from: HouseNumber,
+    bytes: &[u8],
+) -> Result<Begun, Stopped> {
+    match decode_message(heap, bytes) {
+        Ok(message) if may_hear(&message) => {
+            let goes_on = is_long(&message);
+            let passed = copy.hears(heap, from, message)?;
+            heard(heap, store, passed, goes_on)
+        }
+        Err(Unread::Memory) => Err(Stopped::NoMemory),
+        _ => Ok(Begun::Passed(copy)),
+    }
+}
+
+fn called(
+    heap: Global,
+    copy: Copy<Text, Text>,
+    store: &Store,
+    id: CallNumber,
+    call: Vec<u8>,
+) -> Result<Begun, Stopped> {
+    match copy.is_called(heap, id, Text::new(call))? {
+        Called::Passed(copy) => Ok(Begun::Passed(copy)),
+        Called::Busy(copy) => Ok(Begun::Busy(copy, id)),
+        Called::Begun(turn) => Ok(Begun::Midst(Midst::new(heap, store, turn, false)?)),
+    }
+}
+
+fn begins(
+    heap: Global,
+    copy: Copy<Text, Text>,
+    store: &Store,
+    event: Event,
+) -> Result<Begun, Stopped> {
+    match event {
+        Event::Packet(from, bytes) => hears(heap, copy, store, from, &bytes),
+        Event::Call(id, call) => called(heap, copy, store, id, call),
+        Event::Tick => {
+            let ticked = copy.ticks(heap)?;
+            heard(heap, store, ticked, false)
+        }
+    }
+}
+
+// What the work leaves: the event, heads and blocks, and whose sessions changed.
+#[derive(Drop)]
+struct Worked {
+    turn: Turning,
+    store: Store,
+    sessions: Vec<HouseNumber>,
+}
+
+impl Worked {
+    // A command's calls, one after the other.
+    fn applied(mut self, heap: Global, command: &copies::agreeing::Command<Text>) -> Result<Worked, Stopped> {
+        applies(&mut self.store, command, &mut self.turn.house.sessions, heap)?;
+        for bundle in &command.0 {
+            self.sessions.push(bundle.house)?;
+        }
+        Ok(self)
+    }
+
+    // Heads and sessions are another copy's.
+    fn replaced(mut self) -> Result<Worked, Stopped> {
+        if let Work::Replaces(rest) = self.turn.take_work() {
+            self.store.replaces(&rest)?;
+            for house in 0..MOST_HOUSES {
+                self.sessions.push(HouseNumber(house))?;
+            }
+        }
+        Ok(self)
+    }
+
+    fn took(mut self, heap: Global, from: HouseNumber, mut part: Part<Rest, Block, Text>) -> Result<Worked, Stopped> {
+        let next = match &part.tail {
+            Tail::More(key) => Some(*key),
+            Tail::Ends(..) => None,
+        };
+        let blocks = mem::replace(&mut part.blocks, Vec::new(heap));
+        if self.store.takes(part.asked.key, next, part.whole, part.floor, blocks)? {
+            self.turn = self.turn.takes_over_part(from, part);
+            self.replaced()
+        } else {
+            self.store.wipes()?;
+            self.turn = self.turn.starts_over(from);
+            Ok(self)
+        }
+    }
+
+    fn works(self, heap: Global, work: Working) -> Result<Worked, Stopped> {
+        match work {
+            Work::Applies(command) => self.applied(heap, &command),
+            Work::Takes(from, part) => self.took(heap, from, part),
+            _ => Ok(self),
+        }
+    }
+
+    fn put_session(&self, heap: Global, house: HouseNumber, out: &mut Vec<Write>) -> Result<(), Stopped> {
+        let area = session_area(house).ok_or(Stopped::Broken)?;
+        let session = self.turn.house.sessions.of(house).ok_or(Stopped::Broken)?;
+        Ok(put_table(heap, session, area, out)?)
+    }
+
+    // All that is to be stored.
+    fn writes(&self, heap: Global) -> Result<Vec<Write>, Stopped> {
+        let mut out = Vec::new(heap);
+        if self.turn.stores.agreeing {
+            put_table(heap, &self.turn.house.agreeing, AGREEING, &mut out)?;
+        }
+        for house in &self.sessions {
+            self.put_session(heap, *house, &mut out)?;
+        }
+        self.store.writes(heap, &mut out)?;
+        Ok(out)
+    }
+}
+
+// What is stored, and sent when it is.
+#[derive(Drop)]
+struct Ended {
+    copy: Copy<Text, Text>,
+    store: Store,
+    writes: Vec<Write>,
+    outputs: Vec<Output>,
+}
+
+impl Midst {
+    // When the places are read: all that is left to do.
+    fn ends(self, heap: Global, store: Store) -> Result<Ended, Stopped> {
+        let worked = Worked {
+            turn: self.turn,
+            store,
+            sessions: Vec::new(heap),
+        };
+        let mut worked = worked.works(heap, self.work)?;
+        if self.goes_on {
+            worked.turn = worked.turn.ends(heap)?;
+        }
+        let writes = worked.writes(heap)?;
+        let outputs = outputs(heap, &worked.turn, &worked.store, self.portion)?;
+        Ok(Ended {
+            copy: worked.turn.house,
+            store: worked.store,
+            writes,
+            outputs,
+        })
+    }
+}
+
+fn stored<D: Disk>(journal: &mut Journal, disk: &mut D, writes: &[Write]) -> Result<(), Failed<Stopped>> {
+    if writes.is_empty() {
+        return Ok(());
+    }
+    match put(journal, disk, writes) {
+        Ok(()) => Ok(()),
+        Err(Failed::Disk(fault)) => Err(Failed::Disk(fault)),
+        Err(Failed::Refused(_)) => Err(Failed::Refused(Stopped::Broken)),
+    }
+}
+
+impl House {
+    // In the midst of an event: reads, ends, stores.
+    fn goes<D: Disk>(
+        disk: &mut D,
+        heap: Global,
+        mut journal: Journal,
+        identity: Identity,
+        store: Store,
+        midst: Midst,
+    ) -> Result<Done, Failed<Stopped>> {
+        let places = match store.data_places(heap, &midst.places) {
+            Ok(places) => places,
+            Err(stopped) => return Err(Failed::Refused(Stopped::from(stopped))),
+        };
+        let sectors = read_all(disk, heap, &places)?;
+        let mut store = store.begins(midst.turn.house.agreeing.version);
+        if store.knows(&midst.places, &sectors).is_err() {
+            return Err(Failed::Disk(disk.give_up()));
+        }
+        let ended = match midst.ends(heap, store) {
+            Ok(ended) => ended,
+            Err(stopped) => return Err(Failed::Refused(stopped)),
+        };
+        stored(&mut journal, disk, &ended.writes)?;
+        Ok(Done {
+            house: House {
+                journal,
+                identity,
+                copy: ended.copy,
+                store: ended.store,
+            },
+            outputs: ended.outputs,
+        })
+    }
+
+    // Where it fails the house is gone: it comes up anew from its device.
+    pub fn does<D: Disk>(self, disk: &mut D, heap: Global, event: Event) -> Result<Done, Failed<Stopped>> {
+        let House {
+            journal,
+            identity,
+            copy,
+            store,
+        } = self;
+        let (copy, outputs) = match begins(heap, copy, &store, event) {
+            Ok(Begun::Midst(midst)) => {
+                return House::goes(disk, heap, journal, identity, store, midst);
+            }
+            Ok(Begun::Passed(copy)) => (copy, Vec::new(heap)),
+            Ok(Begun::Busy(copy, id)) => match busy(heap, id) {
+                Ok(outputs) => (copy, outputs),
+                Err(stopped) => return Err(Failed::Refused(stopped)),
+            },
+            Err(stopped) => return Err(Failed::Refused(stopped)),
+        };
+        let house = House {
+            journal,
+            identity,
+            copy,
+            store,
+        };
+        Ok(Done { house, outputs })
+    }
+}

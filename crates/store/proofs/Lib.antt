@@ -1,0 +1,6 @@
+pub mod Putting
+pub mod Reading
+pub mod Setting
+pub mod Serving
+pub mod Giving
+pub mod Gathering
