@@ -2,27 +2,21 @@
 #![tactic(auto)]
 
 ghost use Rattle.std.specs.Prelude.{◌≡◌};
-ghost use Rattle.disks.specs.Disks.{No};
-ghost use Rattle.wire.specs.Answers.{the_reply};
-ghost use Rattle.wire.specs.Calls.{decoded};
-ghost use Rattle.wire.specs.Kinds.{is_built};
-ghost use Rattle.house.specs.Places.{place_of, refusal_for};
+ghost use Rattle.house.specs.Places.{place_of};
 
 mod input;
+mod station;
 
 use anyhow::anyhow;
-use arguments::two;
+use houses::event::Output;
 use input::next_line;
 use lines::hex::Hex;
-use lines::line::{Line, LineError, parse};
-use std::fs::OpenOptions;
+use lines::line::{LineError, parse};
+use station::Station;
 use std::io::{BufReader, Write};
 use std::{env, io};
-use wire::answer::Answer;
-use wire::call::Call;
 use wire::number::*;
 use wire::refusal::Refusal;
-use wire::response::Response;
 
 // How many houses there may be.
 const LEAST_HOUSES: u8 = 3;
@@ -31,7 +25,7 @@ const MOST_HOUSES: u8 = 49;
 
 // Which house this is, and how many there are.
 #[derive(Clone, Copy)]
-struct Place {
+pub(crate) struct Place {
     me: House,
     houses: u8,
 }
@@ -51,77 +45,60 @@ impl Place {
 }
 
 fn usage() -> anyhow::Error {
-    anyhow!("usage: house NUMBER HOUSES, with 3 to 49 houses and a number below that")
+    anyhow!("usage: house NUMBER HOUSES [SIZE], with 3 to 49 houses and a number below that; a device that isn't there is made, of SIZE sectors")
 }
 
-// Which house this is, by the command line.
-fn named(rt: &HostRuntime) -> anyhow::Result<Place> {
+// Which house this is, and the size of a device that is to be made, by the command line.
+fn named(rt: &HostRuntime) -> anyhow::Result<(Place, Option<u64>)> {
     let mut words = env::args(rt)?.skip(1);
-    let (me, houses) = two(&mut words).ok_or_else(usage)?;
+    let me = words.next().ok_or_else(usage)?;
+    let houses = words.next().ok_or_else(usage)?;
+    let size = words.next();
     if words.next().is_some() {
         return Err(usage());
     }
-    Place::new(me, houses).ok_or_else(usage)
+    let me = me.parse().map_err(|_| usage())?;
+    let houses = houses.parse().map_err(|_| usage())?;
+    let size = match size {
+        Some(word) => Some(word.parse().map_err(|_| usage())?),
+        None => None,
+    };
+    Ok((Place::new(me, houses).ok_or_else(usage)?, size))
 }
 
-// What a call is answered: nothing is kept yet, so each is refused.
-fn respond(customer: Customer, call: &[u8]) -> Response<'_>
-    ensures same { result.customer ≡ customer }
-    ensures refused { the_reply result.answer ≡ No (refusal_for (decoded is_built call.now)) }
-{
-    let refusal = Call::decode(call).err().unwrap_or(Refusal::NotBuilt);
-    Response {
-        customer,
-        answer: Answer::Refused(refusal),
+// Prints `to J HEX` or `answer N HEX`.
+fn print_output<W: Write>(out: &mut W, output: &Output) -> io::Result<()> {
+    match output {
+        Output::Packet(to, bytes) => writeln!(out, "to {} {}", to.0, Hex(bytes.as_slice())),
+        Output::Answer(id, bytes) => writeln!(out, "answer {} {}", id.0, Hex(bytes.as_slice())),
     }
-}
-
-// Prints `answer N HEX`.
-fn print_response<W: Write>(rt: &HostRuntime, out: &mut W, response: &Response) -> io::Result<()> {
-    let bytes = response.answer.encode(rt.alloc())?;
-    writeln!(
-        out,
-        "answer {} {}",
-        response.customer.0,
-        Hex(bytes.as_slice())
-    )
-}
-
-// What a line tells, if it was read.
-fn told(
-    rt: &HostRuntime,
-    place: Place,
-    line: Result<Vec<u8>, LineError>,
-) -> Result<Line, LineError> {
-    parse(rt.alloc(), line?.as_slice(), place.houses)
 }
 
 // Prints what a line leads to.
 fn obey<W: Write>(
     rt: &HostRuntime,
     out: &mut W,
-    place: Place,
+    station: &mut Station,
     line: Result<Vec<u8>, LineError>,
-) -> io::Result<()> {
-    match told(rt, place, line) {
-        Ok(Line::Ask(customer, call)) => print_response(
-            rt,
-            out,
-            &respond(customer, call.as_slice()),
-        ),
-        Ok(Line::From(_, _) | Line::Tick) => Ok(()),
-        Err(_) => writeln!(out, "refused {}", u8::from(Refusal::Malformed)),
+) -> anyhow::Result<()> {
+    let told = match line {
+        Ok(line) => parse(rt.alloc(), line.as_slice(), station.houses()),
+        Err(e) => Err(e),
+    };
+    match told {
+        Ok(line) => {
+            for output in &station.does(rt, line) {
+                print_output(out, output)?;
+            }
+        }
+        Err(_) => writeln!(out, "refused {}", u8::from(Refusal::Malformed))?,
     }
+    Ok(())
 }
 
 fn run(rt: &HostRuntime) -> anyhow::Result<()> {
-    let place = named(rt)?;
-    // As `device_bench` opens it: a crate below both for this chain alone would be no plainer.
-    let _device = OpenOptions::new()
-        .read(true)
-        .write(true)
-        .open(rt, "device")
-        .map_err(|_| anyhow!("the file `device` cannot be opened in this folder"))?;
+    let (place, size) = named(rt)?;
+    let mut station = Station::new(rt, place, size)?;
     let mut input = BufReader::new(rt.alloc(), rt.stdin())?;
     let mut out = rt.stdout();
 
@@ -130,7 +107,7 @@ fn run(rt: &HostRuntime) -> anyhow::Result<()> {
         let Some(line) = next_line(rt.alloc(), &mut input)? else {
             break;
         };
-        obey(rt, &mut out, place, line)?;
+        obey(rt, &mut out, &mut station, line)?;
         writeln!(out, "done")?;
         out.flush()?;
     }

@@ -1,6 +1,6 @@
 // A house comes up from its device.
 use crate::house::{House, Setup, Stopped};
-use crate::reading::read_range;
+use crate::reading::{read_range, stops};
 use crate::tables::{COUNT, FIRST, Tables};
 use copies::memory::Memory;
 use copies::turn::House as Copy;
@@ -32,7 +32,7 @@ fn load(
     let mut pieces = Pieces::new(heap, layout)?;
     pieces.raise_floor(floor);
     for (number, sector) in sectors.iter().enumerate() {
-        if number as u64 < pieces.layout().directory_sectors() {
+        if (number as u64) < pieces.layout().directory_sectors() {
             pieces.load_sector(heap, number as u64, sector, generation, living)?;
         }
     }
@@ -93,7 +93,7 @@ pub fn open<D: Disk>(disk: &mut D, heap: Global, setup: Setup) -> Result<House, 
     let directory = read_range(disk, heap, FIXED_SECTORS, layout.directory_sectors())?;
     match raised(heap, setup, journal, layout, &tables, &directory) {
         Ok(house) => house.stores_identity(disk, heap),
-        Err(stopped) => Err(Failed::Refused(stopped)),
+        Err(stopped) => Err(stops(disk, stopped)),
     }
 }
 
@@ -102,7 +102,7 @@ impl House {
         let mut writes: Vec<Write> = Vec::new(heap);
         match put_table(heap, &self.identity, IDENTITY, &mut writes) {
             Ok(()) => {}
-            Err(_) => return Err(Failed::Disk(disk.give_up())),
+            Err(unserved) => return Err(stops(disk, Stopped::from(unserved))),
         }
         match put(&mut self.journal, disk, &writes) {
             Ok(()) => Ok(self),

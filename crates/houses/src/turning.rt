@@ -2,7 +2,7 @@
 use crate::event::{Event, Output};
 use crate::house::{House, Stopped};
 use crate::outputs::*;
-use crate::reading::read_all;
+use crate::reading::{read_all, stops};
 use copies::event::{Called, Heard};
 use copies::message::{Message, Part, Tail};
 use copies::number::{CallNumber, HouseNumber};
@@ -16,9 +16,8 @@ use packets::areas::{AGREEING, session_area};
 use packets::block::Block;
 use packets::fault::Unread;
 use packets::identity::Identity;
-use packets::packet::Packet;
+use packets::packet::{Packet, decode_message};
 use packets::rest::Rest;
-use packets::stored::*;
 use packets::text::Text;
 use std::alloc::Global;
 use std::mem;
@@ -238,9 +237,10 @@ impl Midst {
         }
         let writes = worked.writes(heap)?;
         let outputs = outputs(heap, &worked.turn, &worked.store, self.portion)?;
+        let Worked { turn, store, .. } = worked;
         Ok(Ended {
-            copy: worked.turn.house,
-            store: worked.store,
+            copy: turn.house,
+            store,
             writes,
             outputs,
         })
@@ -270,7 +270,7 @@ impl House {
     ) -> Result<Done, Failed<Stopped>> {
         let places = match store.data_places(heap, &midst.places) {
             Ok(places) => places,
-            Err(stopped) => return Err(Failed::Refused(Stopped::from(stopped))),
+            Err(stopped) => return Err(stops(disk, Stopped::from(stopped))),
         };
         let sectors = read_all(disk, heap, &places)?;
         let mut store = store.begins(midst.turn.house.agreeing.version);
@@ -279,7 +279,7 @@ impl House {
         }
         let ended = match midst.ends(heap, store) {
             Ok(ended) => ended,
-            Err(stopped) => return Err(Failed::Refused(stopped)),
+            Err(stopped) => return Err(stops(disk, stopped)),
         };
         stored(&mut journal, disk, &ended.writes)?;
         Ok(Done {
@@ -308,9 +308,9 @@ impl House {
             Ok(Begun::Passed(copy)) => (copy, Vec::new(heap)),
             Ok(Begun::Busy(copy, id)) => match busy(heap, id) {
                 Ok(outputs) => (copy, outputs),
-                Err(stopped) => return Err(Failed::Refused(stopped)),
+                Err(stopped) => return Err(stops(disk, stopped)),
             },
-            Err(stopped) => return Err(Failed::Refused(stopped)),
+            Err(stopped) => return Err(stops(disk, stopped)),
         };
         let house = House {
             journal,
