@@ -12,6 +12,10 @@ use Rattle.replicated.proofs.CaughtUp.{caught_up}
 use Rattle.replicated.proofs.Cells.{cells_keeps}
 use Rattle.replicated.proofs.Events.{as_one}
 use Rattle.replicated.proofs.StoredFirst.{stored_first}
+use Rattle.replicated.specs.Ties.{PostsRendered, CommandsRun, CounterStays}
+use Rattle.replicated.proofs.Rendering.{posts_rendered}
+use Rattle.replicated.proofs.Running.{commands_run}
+use Rattle.replicated.proofs.Counter.{counter_stays}
 
 abbrev pub AgreementHeld : Type 0
 AgreementHeld = Shown {A = Agreement} agreement
@@ -37,3 +41,13 @@ AnswersWithinHeld = Shown {A = ReplicatedAnswersWithin} answers_within
 -- the laws of a keeper can be met
 abbrev pub CellsKept : Type 0
 CellsKept = Shown {A = Keeps cells cell_keeper} cells_keeps
+
+-- what code computes part by part
+abbrev pub PostsHeld : Type 0
+PostsHeld = Shown {A = PostsRendered} posts_rendered
+
+abbrev pub CommandsHeld : Type 0
+CommandsHeld = Shown {A = CommandsRun} commands_run
+
+abbrev pub CounterHeld : Type 0
+CounterHeld = Shown {A = CounterStays} counter_stays

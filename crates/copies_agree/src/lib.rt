@@ -4,7 +4,7 @@
 
 ghost use Rattle.copies.specs.Service.{Lawful};
 ghost use Rattle.copies.specs.Cells.{cells, Alive, CatchesUp};
-ghost use Rattle.copies_agree.specs.Held.{AgreementHeld, CaughtUpHeld, AsOneHeld, BusyHeld, AnswersHeld, AnswersWithinHeld, StoredFirstHeld, CellsKept};
+ghost use Rattle.copies_agree.specs.Held.{AgreementHeld, CaughtUpHeld, AsOneHeld, BusyHeld, AnswersHeld, AnswersWithinHeld, StoredFirstHeld, CellsKept, PostsHeld, CommandsHeld, CounterHeld};
 
 // There is one sequence of commands, and each copy has, whenever it is looked at, the state after the first of them; one that catches up
 // has each block as it was after so many, from its base to its top.
@@ -33,6 +33,14 @@ pub fn houses_answer()
 // What a copy says of itself it has stored before.
 pub fn stored_first()
     ensures { StoredFirstHeld }
+{}
+
+// What the code computes part by part is what the definition of a whole event says: what is sent, what a command's calls leave, and that the
+// counter of bundles fits when a status or a part goes on.
+pub fn parts_make_events()
+    ensures posts { PostsHeld }
+    ensures commands { CommandsHeld }
+    ensures counter { CounterHeld }
 {}
 
 // There is a service, and a keeper of its blocks, that are what the theorems ask of one: a keeper that forgets, and refuses what it has no

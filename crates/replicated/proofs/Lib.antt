@@ -1,3 +1,6 @@
+pub mod Counter
+pub mod Running
+pub mod Rendering
 pub mod Lists
 pub mod Replay
 pub mod Line
