@@ -2,7 +2,7 @@
 ghost use Rattle.std.specs.Prelude.{◌≡◌, ◌∷◌, [], ◌++◌, Some, IfOk, OnOk, position};
 ghost use Rattle.disks.specs.Device.{zeros};
 ghost use Rattle.pieces.specs.Meaning.{stored_at};
-ghost use Rattle.store.specs.Known.{is_at, written_at, bytes_at, put_at, the_data};
+ghost use Rattle.store.specs.Known.{is_at, written_at, bytes_at, put_at, noted, the_data};
 
 use octets::{BLANK_SECTOR, SECTOR_BYTES};
 use pieces::filled::Written;
@@ -73,6 +73,20 @@ impl Known {
         ensures written { self.new.written ≡ self.old.written }
     {
         self.read.push(Written { place, bytes })?;
+        Ok(())
+    }
+
+    pub fn note_all(
+        &mut self,
+        places: &[u64],
+        sectors: &[[u8; SECTOR_BYTES]],
+    ) -> Result<(), AllocError>
+        ensures read { OnOk result (self.new.read.items ≡ self.old.read.items ++ noted places.now sectors.now) }
+        ensures written { self.new.written ≡ self.old.written }
+    {
+        for i in 0..places.len().min(sectors.len()) {
+            self.note(places[i], sectors[i])?;
+        }
         Ok(())
     }
 
