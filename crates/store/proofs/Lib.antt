@@ -6,3 +6,4 @@ pub mod Giving
 pub mod Gathering
 pub mod Needing
 pub mod Noting
+pub mod Taking

@@ -2,6 +2,7 @@
 ghost use Rattle.std.specs.Prelude.{◌≡◌, ◌∷◌, [], ◌++◌, Some, IfOk, OnOk, position};
 ghost use Rattle.disks.specs.Device.{zeros};
 ghost use Rattle.pieces.specs.Meaning.{stored_at};
+ghost use Rattle.pieces.specs.Replacing.{overlaid};
 ghost use Rattle.store.specs.Known.{is_at, written_at, bytes_at, put_at, noted, the_data};
 
 use octets::{BLANK_SECTOR, SECTOR_BYTES};
@@ -111,6 +112,17 @@ impl Known {
     {
         if let Some(place) = place {
             self.put(place, bytes)?;
+        }
+        Ok(())
+    }
+
+    // So is all of these, one after the other.
+    pub fn put_all(&mut self, all: &[Written]) -> Result<(), AllocError>
+        ensures read { self.new.read ≡ self.old.read }
+        ensures data { OnOk result (the_data self.new ≡ overlaid all.now (the_data self.old)) }
+    {
+        for one in all {
+            self.put(one.place, one.bytes)?;
         }
         Ok(())
     }
