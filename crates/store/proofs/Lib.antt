@@ -7,3 +7,4 @@ pub mod Gathering
 pub mod Needing
 pub mod Noting
 pub mod Taking
+pub mod Listing

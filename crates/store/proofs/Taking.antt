@@ -45,14 +45,13 @@ pub filled_step : (r : Service) (x : StampedHad BlockHad) (xs old : List (Stampe
     AreKeys xs × (vs ++ filled_of r (map the_stamped xs) ≡ all)
 filled_step r x xs old us vs all e f was =
     let keys : IsTrue (is_key x.key.0) × AreKeys xs = subst AreKeys e was.0 in
-    let rest = filled_of r (map the_stamped xs) in
-    (
+    let rest = filled_of r (map the_stamped xs) in (
       keys.1,
       ap (λ (z : List Filled). z ++ rest) (f keys.0)
-      ∙ append_assoc us (filled_one r (the_stamped x)) rest
-      ∙ ap (λ (z : List Filled). us ++ z) (sym (filled_cons r (the_stamped x) (map the_stamped xs)))
-      ∙ sym (ap (λ (z : List (StampedHad BlockHad)). us ++ filled_of r (map the_stamped z)) e)
-      ∙ was.1
+          ∙ append_assoc us (filled_one r (the_stamped x)) rest
+          ∙ ap (λ (z : List Filled). us ++ z) (sym (filled_cons r (the_stamped x) (map the_stamped xs)))
+          ∙ sym (ap (λ (z : List (StampedHad BlockHad)). us ++ filled_of r (map the_stamped z)) e)
+          ∙ was.1,
     )
 
 pub filled_end : (r : Service) (xs : List (StampedHad BlockHad)) (us all : List Filled) → xs ≡ [] → us ++ filled_of r (map the_stamped xs) ≡ all → us ≡ all

@@ -56,11 +56,7 @@ impl Store {
     }
 
     // Which places are to be read before a command is done.
-    pub fn places_for(
-        &self,
-        heap: Global,
-        command: &Command<Text>,
-    ) -> Result<Vec<u64>, AllocError>
+    pub fn places_for(&self, heap: Global, command: &Command<Text>) -> Result<Vec<u64>, AllocError>
         ensures { IfOk result (λ v. v.items ≡ places_of_command (the_kept self.now.pieces) command.now.0.items) }
     {
         let mut places = Vec::new(heap);

@@ -15,4 +15,4 @@ unfolding places_of_bundle
 returns c =
     let k = the_kept c.args.self.now.pieces in
     gather_end (places_of_items k) (place_of_item k) (items_none k) (items_cons k) c.deref-item-items.result.now c.loop-item.item-index c.loop-item.places.items _ (search rules) c.loop-item.invariant
-      ∙ ap (λ x. c.args.places.now.items ++ places_of_items k x) c.deref-item-items.ensures.value
+    ∙ ap (λ x. c.args.places.now.items ++ places_of_items k x) c.deref-item-items.ensures.value
