@@ -4,3 +4,7 @@ pub mod Setting
 pub mod Serving
 pub mod Giving
 pub mod Gathering
+pub mod Needing
+pub mod Noting
+pub mod Taking
+pub mod Listing

@@ -32,6 +32,12 @@ put_in (Some i) p bs ws = slice_set ws i (written_at (slice_index_or ws i (writt
 abbrev pub put_at : (place : ℕ) → List ℕ → List Written → List Written
 put_at p bs ws = put_in (position (is_at p) ws) p bs ws
 
+-- places with what was read of them
+unfoldable pub noted : List ℕ → List (List ℕ) → List Written
+noted [] bss = []
+noted (p ∷ ps) [] = []
+noted (p ∷ ps) (bs ∷ bss) = written_at p bs ∷ noted ps bss
+
 -- what the code's value stands for
 abbrev pub the_data : Known → ℕ → List ℕ
 the_data k = known (vec_items k.read) (vec_items k.written)

@@ -1,3 +1,4 @@
 pub mod Known
 pub mod Stores
 pub mod Parts
+pub mod Writes

@@ -1,8 +1,11 @@
--- Blocks that another copy is given.
+-- Blocks that another copy is given, and blocks that it gives.
 -- Assumes nothing.
-use Rattle.std.specs.Prelude.{◌≡◌, ℕ, zero, suc, Bool, not, ◌||◌, cond, List, [], ◌∷◌, ◌++◌, map, ◌==◌, nat_lt, nat_le, Option, vec_items}
+use Rattle.std.specs.Prelude.{◌≡◌, ℕ, zero, suc, Bool, true, false, not, ◌&&◌, ◌||◌, cond, IsTrue, Some, None, List, [], ◌∷◌, ◌++◌, map, ◌==◌, nat_lt, nat_le, Option, vec_items}
 use Rattle.std.specs.Option.{option_map}
-use Rattle.copies.specs.Service.{Stamped}
+use Rattle.copies.specs.Service.{Stamped, in_range}
+use Rattle.volumes.specs.Service.{Service}
+use Rattle.pieces.specs.Replaces.{Held, Filled, replaces}
+use Rattle.served.specs.Room.{is_gone}
 use Rattle.copies.specs.declared.number.Key.{Key}
 use Rattle.copies.specs.declared.message.Stamped.{Stamped as StampedHad}
 use Rattle.packets.specs.declared.block.Block.{Block as BlockHad}
@@ -12,7 +15,7 @@ use Rattle.pieces.specs.Meaning.{content}
 use Rattle.pieces.specs.Changes as changes
 use Rattle.pieces.specs.Counts.{number_of}
 use Rattle.served.specs.Blocks.{Block, volume_of}
-use Rattle.keeping.specs.Keeping.{most_listed, since_of, key_at}
+use Rattle.keeping.specs.Keeping.{most_listed, since_of, key_at, filled_with, filled_of, most_emptied}
 use Rattle.store.specs.declared.parts.Portion.{Portion}
 
 -- keys of volumes whose number has 64 bits
@@ -56,3 +59,34 @@ given d e = record { key = number_of (changes.entry_key e); stamp = e.stamp.0; b
 
 abbrev pub the_stamped : StampedHad BlockHad → Stamped Block
 the_stamped b = record { key = b.key.0; stamp = b.stamp.0; block = vec_items b.block.sectors }
+
+-- PARTS OF ANOTHER COPY. All their keys are keys of volumes whose number has 64 bits.
+abbrev pub AreKeys : List (StampedHad BlockHad) → Type 0
+AreKeys [] = Unit
+AreKeys (b ∷ bs) = IsTrue (is_key b.key.0) × AreKeys bs
+
+abbrev pub AreNext : Option Key → Type 0
+AreNext None = Unit
+AreNext (Some k) = IsTrue (is_key k.0)
+
+pub record FitKeys (from : Key) (next : Option Key) (bs : List (StampedHad BlockHad)) : Type 0 where
+  pub from_key : IsTrue (is_key from.0)
+  pub next_key : AreNext next
+  pub keys : AreKeys bs
+
+-- keys rise within the range
+unfoldable pub ordered : (key : ℕ) → (next : Option ℕ) → List (Stamped Block) → Bool
+ordered key next [] = true
+ordered key next (b ∷ bs) = in_range key next b.key && ordered (suc b.key) next bs
+
+-- a block of a volume that isn't gone, as it is filled in
+abbrev pub filled_one : Service → Stamped Block → List Filled
+filled_one r b = cond (is_gone r b.key) [] (filled_with b ∷ [])
+
+-- what taking over comes to; blocks of the code's values are whole
+unfoldable pub takes_held : Service → (whole : Bool) → (key : ℕ) → (next : Option ℕ) → (floor : ℕ) → List (Stamped Block) → Held → Option Held
+takes_held r whole key next floor bs h = cond (ordered key next bs) (replaces (key_at key) (option_map key_at next) whole most_emptied floor (filled_of r bs) h) None
+
+abbrev pub Took : Bool → Option Held → Held → Type 0
+Took true o m = o ≡ Some m
+Took false o m = o ≡ None

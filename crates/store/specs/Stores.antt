@@ -1,16 +1,21 @@
 -- What a house has of volumes in memory, and what a call does to it.
 -- Assumes nothing.
-use Rattle.std.specs.Prelude.{◌≡◌, ℕ, cond, List, length, bytes_eq, Some, None, Option, Result, MatchResult}
+use Rattle.std.specs.Prelude.{◌≡◌, ℕ, suc, ◌≤◌, true, false, cond, List, [], ◌∷◌, ◌++◌, length, vec_items, bytes_eq, Some, None, Option, Result, MatchResult}
+use Rattle.disks.specs.Device.{zeros}
 use Rattle.disks.specs.Disks.{No}
 use Rattle.wire.specs.Calls.{Decoded, is_call, is_refused}
 use Rattle.wire.specs.Answers.{answer_bytes}
 use Rattle.volumes.specs.Service.{Service, the_service, Changed, keeps, puts, forgets, Served, says, serves}
-use Rattle.volumes.specs.Simulation.{Place, read_at, needed}
+use Rattle.volumes.specs.Simulation.{Place, read_at, needed, room_left}
+use Rattle.volumes.specs.Restored.{is_right}
+use Rattle.copies.specs.declared.message.Item.{Item}
+use Rattle.copies.specs.declared.message.Bundle.{Bundle}
+use Rattle.pieces.specs.Layouts.{places_of}
 use Rattle.pieces.specs.Kept.{Kept, the_kept, found, place_of, forgotten}
 use Rattle.pieces.specs.Meaning.{shown}
 use Rattle.pieces.specs.Replaces.{Held, sets_held}
 use Rattle.served.specs.Served.{decoded_call}
-use Rattle.keeping.specs.Keeping.{or_held}
+use Rattle.keeping.specs.Keeping.{none_held, or_held, tidied_held}
 use Rattle.store.specs.Known.{the_data}
 use Rattle.store.specs.declared.store.Store.{Store}
 use Rattle.store.specs.declared.store.Unserved.{Unserved}
@@ -99,3 +104,54 @@ place_at (Some p) k = found (place_of p.volume p.sector k)
 abbrev pub place_needed : Decoded → Kept → Option ℕ
 place_needed (is_call c) k = place_at (needed c) k
 place_needed (is_refused n) k = None
+
+-- the places that the calls of a bundle need, and those of a command
+abbrev pub listed_place : Option ℕ → List ℕ
+listed_place None = []
+listed_place (Some p) = p ∷ []
+
+unfoldable pub place_of_item : Kept → Item (List ℕ) → List ℕ
+place_of_item k i = listed_place (place_needed (decoded_call i.call) k)
+
+unfoldable pub places_of_items : Kept → List (Item (List ℕ)) → List ℕ
+places_of_items k [] = []
+places_of_items k (i ∷ is) = place_of_item k i ++ places_of_items k is
+
+unfoldable pub places_of_bundle : Kept → Bundle (List ℕ) → List ℕ
+places_of_bundle k b = places_of_items k (vec_items b.calls)
+
+unfoldable pub places_of_command : Kept → List (Bundle (List ℕ)) → List ℕ
+places_of_command k [] = []
+places_of_command k (b ∷ bs) = places_of_bundle k b ++ places_of_command k bs
+
+-- AN EVENT BEGINS: nothing is known of places, and nothing to be written.
+abbrev pub Clear : Store → Type 0
+Clear s = (vec_items s.known.read ≡ []) × (vec_items s.known.written ≡ []) × (vec_items s.entries ≡ []) × (s.rest ≡ false) × (s.directory ≡ false)
+
+-- nothing is known of places
+abbrev pub unknown : Kept → Held
+unknown k = record { kept = k; data' = λ p. zeros 512 }
+
+-- WHOLE STATES. The heads are another copy's; none, where they contradict themselves.
+abbrev pub with_rest : (size : ℕ) → Service → Stored → Stored
+with_rest size r s = record { room = room_left size; version = s.version; rest = r; held = tidied_held r s.held }
+
+abbrev pub DoesReplace : Service → Store → Result Unit Unserved → Store → Type 0
+DoesReplace r s q t =
+    MatchResult q (λ u. (is_right (room_left s.size) r.weight r.heads ≡ true) × (the_stored t ≡ with_rest s.size r (the_stored s)) × (t.rest ≡ true)) (λ e. e ≡ unserved.Broken → is_right (room_left s.size) r.weight r.heads ≡ false)
+
+-- All blocks are forgotten, and so is what was to be written of them; the generation is the next.
+abbrev pub wiped : (size : ℕ) → Stored → Stored
+wiped size s = record { room = s.room; version = s.version; rest = s.rest; held = none_held size }
+
+pub record Wipes (s t : Store) : Type 0 where
+  pub stored : the_stored t ≡ wiped s.pieces.layout.size (the_stored s)
+  pub layout : t.pieces.layout ≡ s.pieces.layout
+  pub generation : t.generation.0 ≡ suc s.generation.0
+  pub written : (vec_items t.known.written ≡ []) × (vec_items t.entries ≡ [])
+  pub directory : t.directory ≡ true
+  pub heads : t.rest ≡ s.rest
+
+-- what is there of the device for a place
+abbrev pub IsPlace : (size place : ℕ) → Type 0
+IsPlace size p = (1 ≤ p) × (p ≤ places_of size)

@@ -2,7 +2,8 @@
 ghost use Rattle.std.specs.Prelude.{◌≡◌, ◌∷◌, [], ◌++◌, Some, IfOk, OnOk, position};
 ghost use Rattle.disks.specs.Device.{zeros};
 ghost use Rattle.pieces.specs.Meaning.{stored_at};
-ghost use Rattle.store.specs.Known.{is_at, written_at, bytes_at, put_at, the_data};
+ghost use Rattle.pieces.specs.Replacing.{overlaid};
+ghost use Rattle.store.specs.Known.{is_at, written_at, bytes_at, put_at, noted, the_data};
 
 use octets::{BLANK_SECTOR, SECTOR_BYTES};
 use pieces::filled::Written;
@@ -76,6 +77,20 @@ impl Known {
         Ok(())
     }
 
+    pub fn note_all(
+        &mut self,
+        places: &[u64],
+        sectors: &[[u8; SECTOR_BYTES]],
+    ) -> Result<(), AllocError>
+        ensures read { OnOk result (self.new.read.items ≡ self.old.read.items ++ noted places.now sectors.now) }
+        ensures written { self.new.written ≡ self.old.written }
+    {
+        for i in 0..places.len().min(sectors.len()) {
+            self.note(places[i], sectors[i])?;
+        }
+        Ok(())
+    }
+
     // This is to be written.
     pub fn put(&mut self, place: u64, bytes: [u8; SECTOR_BYTES]) -> Result<(), AllocError>
         ensures read { self.new.read ≡ self.old.read }
@@ -97,6 +112,17 @@ impl Known {
     {
         if let Some(place) = place {
             self.put(place, bytes)?;
+        }
+        Ok(())
+    }
+
+    // So is all of these, one after the other.
+    pub fn put_all(&mut self, all: &[Written]) -> Result<(), AllocError>
+        ensures read { self.new.read ≡ self.old.read }
+        ensures data { OnOk result (the_data self.new ≡ overlaid all.now (the_data self.old)) }
+    {
+        for one in all {
+            self.put(one.place, one.bytes)?;
         }
         Ok(())
     }

@@ -1,14 +1,15 @@
 // Calls of a command, one after the other.
-ghost use Rattle.std.specs.Prelude.{◌≡◌, ℕ, List, IfOk};
+ghost use Rattle.std.specs.Prelude.{◌≡◌, ℕ, List, ◌++◌, IfOk, OnOk};
 ghost use Rattle.volumes.specs.Service.{the_change};
 ghost use Rattle.volumes.specs.Simulation.{read_at, needed};
 ghost use Rattle.wire.specs.Calls.{the_call, outcome, is_call};
 ghost use Rattle.served.specs.Served.{decoded_call};
 ghost use Rattle.pieces.specs.Kept.{the_kept};
-ghost use Rattle.store.specs.Stores.{Stored, the_held, sector_of, the_stored, changes_held, reply, next, DoesHeld, IsOld, SameBut, DoesServe, place_needed};
+ghost use Rattle.store.specs.Stores.{Stored, the_held, sector_of, the_stored, changes_held, reply, next, DoesHeld, IsOld, SameBut, DoesServe, place_needed, place_of_item, places_of_bundle, places_of_command};
 
 use crate::store::{Store, Unserved};
 use copies::agreeing::Command;
+use copies::message::{Bundle, Item};
 use copies::service::Service;
 use octets::{BLANK_SECTOR, SECTOR_BYTES};
 use packets::text::Text;
@@ -35,19 +36,32 @@ impl Store {
         self.pieces.find(needs(&call)?)
     }
 
+    #[tactic(auto, unfolding(crate::specs::Stores::place_of_item))]
+    fn push_place(&self, item: &Item<Text>, places: &mut Vec<u64>) -> Result<(), AllocError>
+        ensures { OnOk result (places.new.items ≡ places.old.items ++ place_of_item (the_kept self.now.pieces) item.now) }
+    {
+        if let Some(place) = self.place_for(&item.call) {
+            places.push(place)?;
+        }
+        Ok(())
+    }
+
+    fn push_places(&self, bundle: &Bundle<Text>, places: &mut Vec<u64>) -> Result<(), AllocError>
+        ensures { OnOk result (places.new.items ≡ places.old.items ++ places_of_bundle (the_kept self.now.pieces) bundle.now) }
+    {
+        for item in &bundle.calls {
+            self.push_place(item, places)?;
+        }
+        Ok(())
+    }
+
     // Which places are to be read before a command is done.
-    pub fn places_for(
-        &self,
-        heap: Global,
-        command: &Command<Text>,
-    ) -> Result<Vec<u64>, AllocError> {
+    pub fn places_for(&self, heap: Global, command: &Command<Text>) -> Result<Vec<u64>, AllocError>
+        ensures { IfOk result (λ v. v.items ≡ places_of_command (the_kept self.now.pieces) command.now.0.items) }
+    {
         let mut places = Vec::new(heap);
         for bundle in &command.0 {
-            for item in &bundle.calls {
-                if let Some(place) = self.place_for(&item.call) {
-                    places.push(place)?;
-                }
-            }
+            self.push_places(bundle, &mut places)?;
         }
         Ok(places)
     }

@@ -1,10 +1,15 @@
 // Heads and directory of a house, with what an event has read of its data and is to write.
-ghost use Rattle.std.specs.Prelude.{◌≡◌, OnOk};
+ghost use Rattle.std.specs.Prelude.{◌≡◌, ◌++◌, map, IfOk, OnOk, MatchResult};
 ghost use Rattle.store.specs.declared.store.Unserved.TheVariants as unserved;
 ghost use Rattle.pieces.specs.declared.set.Unset.TheVariants as unset;
 ghost use Rattle.pieces.specs.Replaces.{sets_held};
 ghost use Rattle.pieces.specs.Replacing.{with_entry};
-ghost use Rattle.store.specs.Stores.{the_held, sector_of, DoesHeld, no_place, SameBut};
+ghost use Rattle.volumes.specs.Service.{the_service};
+ghost use Rattle.packets.specs.Seen.{see_rest};
+ghost use Rattle.pieces.specs.Kept.{the_kept};
+ghost use Rattle.pieces.specs.Layouts.{data_place};
+ghost use Rattle.store.specs.Known.{noted};
+ghost use Rattle.store.specs.Stores.{the_held, the_stored, sector_of, DoesHeld, no_place, SameBut, Clear, unknown, DoesReplace, Wipes, IsPlace};
 
 use crate::known::Known;
 use copies::number::Version;
@@ -82,13 +87,20 @@ fn push_some(entries: &mut Vec<usize>, entry: Option<usize>) -> Result<(), Alloc
 }
 
 impl Store {
+    // Nothing is known of places, and nothing is to be written.
     pub fn new(
         heap: Global,
         size: u64,
         volumes: Volumes,
         pieces: Pieces,
         generation: Generation,
-    ) -> Store {
+    ) -> Store
+        ensures stored { the_stored result ≡ record { room = volumes.room; version = 0; rest = the_service volumes; held = unknown (the_kept pieces) } }
+        ensures clear { Clear result }
+        ensures size { result.size ≡ size }
+        ensures generation { result.generation ≡ generation }
+        ensures layout { result.pieces.layout ≡ pieces.layout }
+    {
         Store {
             heap,
             size,
@@ -104,7 +116,13 @@ impl Store {
     }
 
     // A new event: nothing is known and nothing to be written; blocks that change do so at this version.
-    pub fn begins(mut self, version: Version) -> Store {
+    pub fn begins(mut self, version: Version) -> Store
+        ensures stored { the_stored result ≡ record { room = self.volumes.room; version = version.0; rest = the_service self.volumes; held = unknown (the_kept self.pieces) } }
+        ensures clear { Clear result }
+        ensures size { result.size ≡ self.size }
+        ensures generation { result.generation ≡ self.generation }
+        ensures layout { result.pieces.layout ≡ self.pieces.layout }
+    {
         self.version = version;
         self.known = Known::new(self.heap);
         self.entries = Vec::new(self.heap);
@@ -118,11 +136,15 @@ impl Store {
         &mut self,
         places: &[u64],
         sectors: &[[u8; SECTOR_BYTES]],
-    ) -> Result<(), AllocError> {
-        for (place, bytes) in places.iter().zip(sectors) {
-            self.known.note(*place, *bytes)?;
-        }
-        Ok(())
+    ) -> Result<(), AllocError>
+        ensures read { OnOk result (self.new.known.read.items ≡ self.old.known.read.items ++ noted places.now sectors.now) }
+        ensures written { self.new.known.written ≡ self.old.known.written }
+        ensures pieces { self.new.pieces ≡ self.old.pieces }
+        ensures entries { self.new.entries ≡ self.old.entries }
+        ensures flags { (self.new.rest ≡ self.old.rest) × (self.new.directory ≡ self.old.directory) }
+        ensures same { SameBut self.old self.new }
+    {
+        self.known.note_all(places, sectors)
     }
 
     // What a sector of a volume holds.
@@ -152,7 +174,9 @@ impl Store {
     }
 
     // Which volumes may still be asked for.
-    pub fn rest(&self, heap: Global) -> Result<Rest, AllocError> {
+    pub fn rest(&self, heap: Global) -> Result<Rest, AllocError>
+        ensures { IfOk result (λ r. see_rest r ≡ the_service self.now.volumes) }
+    {
         let heads = Vec::from_slice(heap, self.volumes.heads())?;
         Ok(Rest {
             next: self.volumes.next(),
@@ -162,7 +186,9 @@ impl Store {
     }
 
     // The heads are another copy's from now on.
-    pub fn replaces(&mut self, rest: &Rest) -> Result<(), Unserved> {
+    pub fn replaces(&mut self, rest: &Rest) -> Result<(), Unserved>
+        ensures { DoesReplace (see_rest rest.now) self.old result self.new }
+    {
         let restored = Volumes::restored(
             self.heap,
             self.size,
@@ -180,7 +206,9 @@ impl Store {
     }
 
     // All blocks are forgotten.
-    pub fn wipes(&mut self) -> Result<(), Unserved> {
+    pub fn wipes(&mut self) -> Result<(), Unserved>
+        ensures { OnOk result (Wipes self.old self.new) }
+    {
         let blank = Pieces::new(self.heap, self.pieces.layout())?;
         self.pieces = blank;
         let next = self.generation.0.checked_add(1).ok_or(Unserved::Broken)?;
@@ -192,7 +220,9 @@ impl Store {
     }
 
     // Where places of data are on the device.
-    pub fn data_places(&self, heap: Global, places: &[u64]) -> Result<Vec<Place>, Unserved> {
+    pub fn data_places(&self, heap: Global, places: &[u64]) -> Result<Vec<Place>, Unserved>
+        ensures { IfOk result (λ v. map (λ p. p.0) v.items ≡ map (data_place self.now.pieces.layout.size) places.now) }
+    {
         let mut found = Vec::new(heap);
         for place in places {
             found.push(self.data_place(*place)?)?;
@@ -200,7 +230,9 @@ impl Store {
         Ok(found)
     }
 
-    pub(crate) fn data_place(&self, place: u64) -> Result<Place, Unserved> {
+    pub(crate) fn data_place(&self, place: u64) -> Result<Place, Unserved>
+        ensures { MatchResult result (λ p. IsPlace self.now.pieces.layout.size place × (p.0 ≡ data_place self.now.pieces.layout.size place)) (λ e. IsPlace self.now.pieces.layout.size place → ⊥) }
+    {
         let layout = self.pieces.layout();
         if place >= 1 && place <= layout.places() {
             Ok(layout.data_place(place))
