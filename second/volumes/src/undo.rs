@@ -160,3 +160,60 @@ impl Trial {
         }
     }
 }
+
+#[cfg(test)]
+mod tests {
+    use super::*;
+    use random::Random;
+    use second_wire::{SECTOR, shape};
+
+    fn some_call(random: &mut Random) -> Call {
+        let kind = [1, 2, 2, 3, 4, 4, 4, 4, 5, 6, 7, 8, 9][random.below(13)];
+        let (count, content) = shape(kind).unwrap();
+        let mut numbers: Vec<u64> = (0..count).map(|_| 1 + random.below(4) as u64).collect();
+        if kind == 1 {
+            numbers = vec![4];
+        }
+        Call { kind, numbers, content: vec![random.below(3) as u8; content] }
+    }
+
+    #[test]
+    fn calls_are_taken_back() {
+        for seed in 0..200 {
+            let mut random = Random::new(seed);
+            let (mut place, mut trial) = (Place::new(400, true), Trial::new(400, true));
+            let mut undos = Vec::new();
+            for _ in 0..60 {
+                let call = some_call(&mut random);
+                let before = (trial.digest(), trial.place().weight(), trial.place().next_number(), trial.place().held_now());
+                let (answer, undo) = trial.does(&call);
+                assert_eq!(place.answer(&call), answer, "seed {seed}");
+                assert_eq!(undo.is_nothing(), before.0 == trial.digest(), "seed {seed} {call:?}");
+                undos.push((before, undo));
+            }
+            while let Some((before, undo)) = undos.pop() {
+                trial.undo(undo);
+                let now = (trial.digest(), trial.place().weight(), trial.place().next_number(), trial.place().held_now());
+                assert_eq!(now, before, "seed {seed}");
+            }
+        }
+    }
+
+    #[test]
+    fn the_digest_is_that_of_what_there_is() {
+        let call = |kind, numbers: &[u64], byte: Option<u8>| Call { kind, numbers: numbers.to_vec(), content: byte.map_or(Vec::new(), |b| vec![b; SECTOR]) };
+        let digest = |writes: &[(u64, u8)]| {
+            let mut trial = Trial::new(1000, true);
+            trial.does(&call(1, &[10], None));
+            trial.does(&call(2, &[1], None));
+            for (sector, byte) in writes {
+                trial.does(&call(4, &[1, 1, *sector], Some(*byte)));
+            }
+            trial.digest()
+        };
+        assert_eq!(digest(&[(1, 5), (2, 6)]), digest(&[(2, 6), (1, 7), (1, 5)]));
+        assert_eq!(digest(&[]), digest(&[(3, 1), (3, 0)]));
+        assert_ne!(digest(&[(1, 5)]), digest(&[(1, 6)]));
+        assert_ne!(digest(&[(1, 5)]), digest(&[(2, 5)]));
+    }
+}
