@@ -1,7 +1,10 @@
 //! Volumes and pictures in one place, from the rules alone: who has a volume may use it, under its last token; a picture stands; all has a
 //! weight. Unsynced writes are not told apart, since nothing is cut in one place.
+mod undo;
+
 use second_wire::{Answer, Call, SECTOR};
 use std::collections::BTreeMap;
+pub use undo::{Trial, Undo};
 
 pub const MOST: usize = 4096;
 pub const LARGEST: u64 = 1 << 40;
@@ -61,6 +64,24 @@ impl Place {
     /// The volumes that there are, each with its present token.
     pub fn held_now(&self) -> Vec<(u64, u64)> {
         self.volumes.iter().map(|(number, volume)| (*number, volume.token)).collect()
+    }
+
+    /// The number that what is made next gets.
+    pub fn next_number(&self) -> u64 {
+        self.next
+    }
+
+    /// The present token of a volume, if there is such a volume.
+    pub fn token(&self, volume: u64) -> Option<u64> {
+        self.volumes.get(&volume).map(|v| v.token)
+    }
+
+    /// Whether a volume has so at a sector; what is not there is zeros.
+    pub fn has(&self, volume: u64, sector: u64, content: &[u8]) -> bool {
+        match self.volumes.get(&volume).and_then(|v| v.sectors.get(&sector)) {
+            Some(there) => there == content,
+            None => content.iter().all(|b| *b == 0),
+        }
     }
 
     pub fn answer(&mut self, call: &Call) -> Answer {
