@@ -2,9 +2,10 @@
 ghost use Rattle.std.specs.Prelude.{◌≡◌, ℕ, ◌<◌, ◌+◌, ◌*◌, ◌^◌, true, false, List, None, IfOk};
 ghost use Rattle.pieces.specs.Kept.{the_kept};
 ghost use Rattle.pieces.specs.Changes.{listed};
-ghost use Rattle.pieces.specs.Replaces.{is_in, replaces};
-ghost use Rattle.pieces.specs.Replacing.{Comes, DoesAll, the_blocks};
+ghost use Rattle.pieces.specs.Replaces.{is_in};
+ghost use Rattle.pieces.specs.Replacing.{Comes, DoesAll};
 ghost use Rattle.pieces.specs.declared.filled.Replaced.{Replaced};
+ghost use Rattle.pieces_trial.specs.Parts.{takes};
 
 use crate::trial::{Trial, WRONG};
 use anyhow::anyhow;
@@ -110,7 +111,7 @@ impl Trial {
 
     // A part is taken over: what is to be written for that.
     fn replace(&mut self, part: &Part) -> Result<Replaced, Unset>
-        ensures kept { DoesAll (replaces part.now.range.from part.now.range.next part.now.whole 256 part.now.floor.0 (the_blocks part.now.blocks.items)) (the_kept self.old.pieces) result (the_kept self.new.pieces) }
+        ensures kept { DoesAll (takes part.now) (the_kept self.old.pieces) result (the_kept self.new.pieces) }
         ensures layout { self.new.pieces.layout ≡ self.old.pieces.layout }
     {
         let taking = Taking {
@@ -124,8 +125,8 @@ impl Trial {
 
     // So it is, and is written. Whether there is room.
     pub(crate) fn take(&mut self, part: &Part) -> anyhow::Result<bool>
-        ensures taken { IfOk result (λ ok. ok ≡ true → (r : Replaced) × Comes (replaces part.now.range.from part.now.range.next part.now.whole 256 part.now.floor.0 (the_blocks part.now.blocks.items)) (the_kept self.old.pieces) (the_kept self.new.pieces) r) }
-        ensures full { IfOk result (λ ok. ok ≡ false → (d : ℕ → List ℕ) → replaces part.now.range.from part.now.range.next part.now.whole 256 part.now.floor.0 (the_blocks part.now.blocks.items) (record { kept = the_kept self.old.pieces; data' = d }) ≡ None) }
+        ensures taken { IfOk result (λ ok. ok ≡ true → (r : Replaced) × Comes (takes part.now) (the_kept self.old.pieces) (the_kept self.new.pieces) r) }
+        ensures full { IfOk result (λ ok. ok ≡ false → (d : ℕ → List ℕ) → takes part.now (record { kept = the_kept self.old.pieces; data' = d }) ≡ None) }
         ensures layout { self.new.pieces.layout ≡ self.old.pieces.layout }
     {
         match self.replace(part) {
