@@ -1,4 +1,6 @@
 // Two directories: one changes, and the other catches up in parts, of what changed or of all. Sometimes it went its own way before.
+ghost use Rattle.std.specs.Prelude.{◌≡◌, ◌≤◌, Some, None, MatchOption};
+
 use crate::chances::index;
 use crate::part::{FIRST, Part};
 use crate::trial::{Trial, count};
@@ -65,13 +67,21 @@ struct Pair {
 
 impl Pair {
     // From which version on the changes are enough; sometimes all is asked for anyway.
-    fn since(&mut self) -> Option<u64> {
+    fn since(&mut self) -> Option<u64>
+        ensures base { MatchOption result Unit (λ s. self.old.base ≡ Some s) }
+        ensures floor { MatchOption result Unit (λ s. self.old.ahead.floor.0 ≤ s) }
+    {
         let all = self.random.below(4) == 0;
-        self.base.filter(|base| !all && *base >= self.ahead.floor.0)
+        match self.base {
+            Some(base) if !all && base >= self.ahead.floor.0 => Some(base),
+            _ => None,
+        }
     }
 
     // The one that is behind begins again from nothing.
-    fn begin_again(&mut self) -> anyhow::Result<()> {
+    fn begin_again(&mut self) -> anyhow::Result<()>
+        ensures { self.new.base ≡ Some 0 }
+    {
         count(&mut self.counts.begun);
         self.base = Some(0);
         self.behind.begin_again()
@@ -82,7 +92,7 @@ impl Pair {
         match self.random.below(64) {
             0..=7 => self.ahead.change(&mut self.random)?,
             8 => self.ahead.forget_some(&mut self.random)?,
-            9 => {
+            9..=12 => {
                 count(&mut self.counts.opened);
                 self.behind.open()?;
                 self.behind.compare()?;
@@ -144,12 +154,17 @@ impl Pair {
         self.behind.compare()?;
         let compared = self.ahead.matches(&self.behind)?;
         self.behind.matches(&self.ahead)?;
+        if self.behind.pieces.floor() < self.ahead.pieces.floor() {
+            return Err(anyhow!("the floor is below the other's"));
+        }
         self.counts.compared = self.counts.compared.saturating_add(compared);
         Ok(())
     }
 
     // The one that is behind sets sectors that the other doesn't.
-    fn stray(&mut self) -> anyhow::Result<()> {
+    fn stray(&mut self) -> anyhow::Result<()>
+        ensures { self.new.base ≡ None }
+    {
         self.base = None;
         for _ in 0..OWN_CHANGES {
             self.behind.change(&mut self.random)?;
@@ -164,6 +179,10 @@ impl Pair {
             3 => self.ahead.forget_some(&mut self.random),
             4 => self.stray(),
             5..=8 => self.catch_up(),
+            9 => {
+                self.ahead.raise_floor();
+                Ok(())
+            }
             _ => self.ahead.change(&mut self.random),
         }
     }
@@ -181,6 +200,6 @@ pub fn catching(heap: Global, seed: u64, steps: u64) -> anyhow::Result<Counts> {
         pair.step()?;
     }
     pair.catch_up()?;
-    pair.behind.compare_listed(0)?;
+    pair.behind.compare_listed(pair.behind.floor.0)?;
     Ok(pair.counts)
 }

@@ -1,5 +1,5 @@
 // Sectors that are drawn by chance, and set.
-ghost use Rattle.std.specs.Prelude.{◌≡◌};
+ghost use Rattle.std.specs.Prelude.{◌≡◌, ◌<◌};
 
 use crate::trial::{Trial, WRONG};
 use anyhow::anyhow;
@@ -19,7 +19,7 @@ pub(crate) fn address(volume: Volume, sector: u64) -> Address
     }
 }
 
-// A sector, of a few that stand close, or of a few that stand apart.
+// A sector, of a few that stand close, or of many that stand apart.
 fn drawn(random: &mut Random) -> u64 {
     let near = random.below(24);
     if random.below(2) == 0 {
@@ -30,7 +30,9 @@ fn drawn(random: &mut Random) -> u64 {
 }
 
 // Which of the volumes.
-pub(crate) fn index(random: &mut Random) -> usize {
+pub(crate) fn index(random: &mut Random) -> usize
+    ensures { result < 4 }
+{
     random.below(VOLUMES) as usize
 }
 

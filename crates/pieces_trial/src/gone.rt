@@ -1,4 +1,8 @@
 // Volumes that are made, and that are gone.
+ghost use Rattle.std.specs.Prelude.{◌≡◌, OnOk};
+ghost use Rattle.pieces.specs.Kept.{the_kept};
+ghost use Rattle.pieces.specs.Replaces.{tidied};
+
 use crate::trial::{Trial, WRONG, count, head};
 use anyhow::anyhow;
 use memory_disk::random::Random;
@@ -16,7 +20,9 @@ impl Trial {
     }
 
     // In the place of a volume another lives; the one that is gone.
-    fn succeed(&mut self, index: usize) -> anyhow::Result<Volume> {
+    fn succeed(&mut self, index: usize) -> anyhow::Result<Volume>
+        ensures { self.new.pieces ≡ self.old.pieces }
+    {
         let at = self.heads.get_mut(index).ok_or(anyhow!("{WRONG}"))?;
         let gone = at.number;
         *at = head(self.next);
@@ -35,7 +41,11 @@ impl Trial {
     }
 
     // All that is of volumes that don't live is forgotten; nothing is written.
-    fn forget_gone(&mut self) {
+    fn forget_gone(&mut self)
+        ensures kept { the_kept self.new.pieces ≡ tidied self.old.next self.old.heads.items (the_kept self.old.pieces) }
+        ensures next { self.new.next ≡ self.old.next }
+        ensures heads { self.new.heads ≡ self.old.heads }
+    {
         let living = Living {
             next: self.next,
             heads: self.heads.as_slice(),
@@ -57,7 +67,11 @@ impl Trial {
     }
 
     // From now on those live that live in another.
-    pub(crate) fn live_as(&mut self, other: &Trial) -> anyhow::Result<()> {
+    pub(crate) fn live_as(&mut self, other: &Trial) -> anyhow::Result<()>
+        ensures kept { OnOk result (the_kept self.new.pieces ≡ tidied other.now.next other.now.heads.items (the_kept self.old.pieces)) }
+        ensures next { OnOk result (self.new.next ≡ other.now.next) }
+        ensures heads { OnOk result (self.new.heads.items ≡ other.now.heads.items) }
+    {
         self.next = other.next;
         self.heads = other.heads.iter().copied().collect(self.heap)?;
         self.forget_gone();

@@ -1,4 +1,5 @@
-// Plays writes, droppings and reopenings by chance against a plain map, and fills a device to twice its room, densely and as sparsely as can be.
+// Plays writes, droppings and reopenings by chance against a plain map, then two directories of which one catches up from the other; and fills
+// a device to twice its room, densely and sparsely.
 #![tactic(auto)]
 
 mod catching;
@@ -34,7 +35,7 @@ fn run(rt: &HostRuntime) -> anyhow::Result<()> {
     println!(rt; "dense: {places} sectors fit, one more doesn't; {markers} blocks changed")?;
     let (places, floor) = sparse(heap)?;
     println!(rt;
-        "one sector in each piece: {places} fit, one more doesn't; the floor rises to {floor}"
+        "one sector in each half of a piece: {places} fit, one more doesn't; the floor rises to {floor}"
     )?;
     Ok(())
 }

@@ -1,6 +1,11 @@
 // What one directory hands on of a range, and what becomes of another that takes it over: on its device, and in its map.
-ghost use Rattle.std.specs.Prelude.{◌≡◌, ◌<◌, ◌+◌, ◌*◌, ◌^◌, Bool, IfOk};
+ghost use Rattle.std.specs.Prelude.{◌≡◌, ℕ, ◌<◌, ◌+◌, ◌*◌, ◌^◌, true, false, List, None, IfOk};
+ghost use Rattle.pieces.specs.Kept.{the_kept};
+ghost use Rattle.pieces.specs.Changes.{listed};
 ghost use Rattle.pieces.specs.Replaces.{is_in};
+ghost use Rattle.pieces.specs.Replacing.{Comes, DoesAll};
+ghost use Rattle.pieces.specs.declared.filled.Replaced.{Replaced};
+ghost use Rattle.pieces_trial.specs.Parts.{takes};
 
 use crate::trial::{Trial, WRONG};
 use anyhow::anyhow;
@@ -82,7 +87,9 @@ impl Trial {
 
     // The first blocks from a key on that changed after a version, or all.
     pub(crate) fn part(&self, since: Option<u64>, from: Key) -> anyhow::Result<Part>
-        ensures { IfOk result (λ p. p.range.from ≡ from) }
+        ensures from { IfOk result (λ p. p.range.from ≡ from) }
+        ensures all { IfOk result (λ p. since ≡ None → (p.whole ≡ true) × (p.range.next ≡ (listed 16 None from (the_kept self.now.pieces).entries).next)) }
+        ensures floor { IfOk result (λ p. p.floor ≡ self.now.pieces.floor) }
     {
         let changed = self
             .pieces
@@ -102,15 +109,27 @@ impl Trial {
         })
     }
 
-    // A part is taken over, and what is listed is written. None if there is no room.
-    pub(crate) fn take(&mut self, part: &Part) -> anyhow::Result<bool> {
+    // A part is taken over: what is to be written for that.
+    fn replace(&mut self, part: &Part) -> Result<Replaced, Unset>
+        ensures kept { DoesAll (takes part.now) (the_kept self.old.pieces) result (the_kept self.new.pieces) }
+        ensures layout { self.new.pieces.layout ≡ self.old.pieces.layout }
+    {
         let taking = Taking {
             whole: part.whole,
             most: MOST_GIVEN_UP,
             floor: part.floor,
             blocks: part.blocks.as_slice(),
         };
-        match self.pieces.replace(self.heap, part.range, taking) {
+        self.pieces.replace(self.heap, part.range, taking)
+    }
+
+    // So it is, and is written. Whether there is room.
+    pub(crate) fn take(&mut self, part: &Part) -> anyhow::Result<bool>
+        ensures taken { IfOk result (λ ok. ok ≡ true → (r : Replaced) × Comes (takes part.now) (the_kept self.old.pieces) (the_kept self.new.pieces) r) }
+        ensures full { IfOk result (λ ok. ok ≡ false → (d : ℕ → List ℕ) → takes part.now (record { kept = the_kept self.old.pieces; data' = d }) ≡ None) }
+        ensures layout { self.new.pieces.layout ≡ self.old.pieces.layout }
+    {
+        match self.replace(part) {
             Ok(replaced) => {
                 self.write_replaced(&replaced)?;
                 self.learn(part)?;
@@ -121,7 +140,9 @@ impl Trial {
         }
     }
 
-    fn write_replaced(&mut self, replaced: &Replaced) -> anyhow::Result<()> {
+    fn write_replaced(&mut self, replaced: &Replaced) -> anyhow::Result<()>
+        ensures { self.new.pieces ≡ self.old.pieces }
+    {
         for entry in replaced.entries.as_slice() {
             self.write_entry(*entry)?;
         }
@@ -137,7 +158,9 @@ impl Trial {
     }
 
     // The map is as the part says.
-    fn learn(&mut self, part: &Part) -> anyhow::Result<()> {
+    fn learn(&mut self, part: &Part) -> anyhow::Result<()>
+        ensures { self.new.pieces ≡ self.old.pieces }
+    {
         if part.whole {
             let range = part.range;
             self.model.retain(|key, _| !is_in(range, key.0, key.1 / BLOCK_SECTORS as u64));
@@ -149,7 +172,9 @@ impl Trial {
         Ok(())
     }
 
-    fn learn_block(&mut self, block: &Filled) -> anyhow::Result<()> {
+    fn learn_block(&mut self, block: &Filled) -> anyhow::Result<()>
+        ensures { self.new.pieces ≡ self.old.pieces }
+    {
         for slot in 0..BLOCK_SECTORS {
             let sector = sector_of(block.block, slot);
             self.model

@@ -8,7 +8,11 @@ use memory_disk::random::Random;
 use std::alloc::Global;
 use wire::number::*;
 
-// After how many pieces of the sparse filling it is loaded again: loading looks through all pieces for each entry.
+// How far apart the sectors of the sparse filling stand: half a piece. Each new block looks through all pieces, so it would take three times
+// as long if each had a piece of its own.
+const APART: u64 = 4096;
+
+// After how many of them it is loaded again: loading looks through all pieces for each entry.
 const REOPENED: u64 = 4000;
 
 pub fn random(heap: Global, seed: u64, steps: u64) -> anyhow::Result<Counts> {
@@ -60,17 +64,17 @@ pub fn dense(heap: Global) -> anyhow::Result<(u64, u64)>
     Ok((places, trial.compare_listed(since)?))
 }
 
-// One sector in each piece, until there is no room; then some are zeros, and another volume's take their entries.
+// One sector in each half of a piece, until there is no room; then some are zeros, and another volume's take their entries.
 pub fn sparse(heap: Global) -> anyhow::Result<(u64, u64)> {
     let mut trial = Trial::new(heap)?;
     trial.make()?;
     trial.make()?;
     let places = trial.pieces.layout().places();
-    for piece in 0..places {
-        if !trial.set(address(Volume(1), piece.wrapping_mul(4096)), 7)? {
+    for half in 0..places {
+        if !trial.set(address(Volume(1), half.wrapping_mul(APART)), 7)? {
             return Err(anyhow!("it is full too early"));
         }
-        if piece == REOPENED {
+        if half == REOPENED {
             trial.open()?;
             trial.compare()?;
         }
@@ -78,19 +82,19 @@ pub fn sparse(heap: Global) -> anyhow::Result<(u64, u64)> {
     if trial.set(address(Volume(2), 0), 7)? {
         return Err(anyhow!("more fits than there are places"));
     }
-    for piece in 0..500 {
-        if !trial.set(address(Volume(1), piece * 4096), 0)? {
+    for half in 0..500 {
+        if !trial.set(address(Volume(1), half * APART), 0)? {
             return Err(anyhow!("zeros need no room"));
         }
     }
-    for piece in 0..500 {
-        if !trial.set(address(Volume(2), piece * 4096), 9)? {
+    for half in 0..500 {
+        if !trial.set(address(Volume(2), half * APART), 9)? {
             return Err(anyhow!("no marker is given up"));
         }
     }
-    for piece in 0..1000 {
-        trial.shows(address(Volume(1), piece * 4096))?;
-        trial.shows(address(Volume(2), piece * 4096))?;
+    for half in 0..1000 {
+        trial.shows(address(Volume(1), half * APART))?;
+        trial.shows(address(Volume(2), half * APART))?;
     }
     Ok((places, trial.floor.0))
 }

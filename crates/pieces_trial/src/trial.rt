@@ -1,5 +1,6 @@
 // The directory in memory and on a device, beside a plain map of what each sector holds.
-ghost use Rattle.std.specs.Prelude.{◌≡◌, IfOk};
+ghost use Rattle.std.specs.Prelude.{◌≡◌, IfOk, None};
+ghost use Rattle.pieces.specs.Kept.{the_kept, raised, place_of, found};
 
 use anyhow::anyhow;
 use octets::{BLANK_SECTOR, SECTOR_BYTES};
@@ -103,14 +104,18 @@ impl Trial {
     }
 
     // A sector of data goes to the device.
-    pub(crate) fn write_data(&mut self, place: u64, byte: u8) -> anyhow::Result<()> {
+    pub(crate) fn write_data(&mut self, place: u64, byte: u8) -> anyhow::Result<()>
+        ensures { self.new.pieces ≡ self.old.pieces }
+    {
         let at = self.data.get_mut(place as usize).ok_or(anyhow!("{WRONG}"))?;
         *at = byte;
         Ok(())
     }
 
     // So does the sector of the directory that has this entry.
-    pub(crate) fn write_entry(&mut self, entry: usize) -> anyhow::Result<()> {
+    pub(crate) fn write_entry(&mut self, entry: usize) -> anyhow::Result<()>
+        ensures { self.new.pieces ≡ self.old.pieces }
+    {
         let number = entry as u64 / SECTOR_ENTRIES;
         if number >= self.pieces.layout().directory_sectors() {
             return Err(anyhow!("{WRONG}"));
@@ -160,7 +165,9 @@ impl Trial {
     }
 
     // What a sector is filled with, as it is read.
-    pub(crate) fn read(&self, at: Address) -> anyhow::Result<u8> {
+    pub(crate) fn read(&self, at: Address) -> anyhow::Result<u8>
+        ensures { found (place_of at.volume.0 at.sector.0 (the_kept self.now.pieces)) ≡ None → IfOk result (λ b. b ≡ 0) }
+    {
         match self.pieces.find(at) {
             Some(place) => self
                 .data
@@ -184,6 +191,14 @@ impl Trial {
         } else {
             Err(anyhow!("{WRONG}"))
         }
+    }
+
+    // All blocks of zeros that changed up to now may be missing.
+    pub(crate) fn raise_floor(&mut self)
+        ensures kept { the_kept self.new.pieces ≡ raised self.old.version (the_kept self.old.pieces) }
+    {
+        self.pieces.raise_floor(Stamp(self.version));
+        self.floor = self.pieces.floor();
     }
 
     // It is loaded from the device.
