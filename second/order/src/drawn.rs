@@ -141,7 +141,7 @@ impl Drawing<'_> {
 
     /// A call on a few volumes and sectors, mostly under the present token.
     fn some_call(&mut self) -> Call {
-        let held = self.place.held_now();
+        let (held, next) = (self.place.held_now(), self.place.next_number());
         let random = &mut self.random;
         let (mut volume, mut token) = if held.is_empty() { (1, 1) } else { held[random.below(held.len())] };
         match random.below(24) {
@@ -158,8 +158,8 @@ impl Drawing<'_> {
                 0 | 1 => (1, vec![[20, 5, 1][random.below(3)]]),
                 2..=7 => (2, vec![volume]),
                 8 => (8, vec![volume, token]),
-                9 => (7, vec![1 + random.below(6) as u64]),
-                10 => (9, vec![1 + random.below(6) as u64]),
+                9 => (7, vec![1 + random.below(next as usize) as u64]),
+                10 => (9, vec![1 + random.below(next as usize) as u64]),
                 _ => (6, vec![volume, token]),
             }
         } else {

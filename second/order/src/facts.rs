@@ -2,6 +2,7 @@
 use crate::history::{History, Made};
 use second_volumes::{MOST, Place, core_room};
 use second_wire::Answer;
+use std::collections::HashSet;
 
 const MAKE: u8 = 1;
 const ATTACH: u8 = 2;
@@ -41,7 +42,8 @@ impl<'a> Facts<'a> {
         let weight = 64 * things + writes * (1 + pictures);
         let tight = weight as u64 > core_room(history.size) || things >= MOST;
         // what a copy of a picture shows was not written to it
-        let reads = if pictures > 0 { Vec::new() } else { reads(&calls) };
+        let made: HashSet<u64> = calls.iter().filter_map(|c| made_by(c)).collect();
+        let reads = reads(&calls, |volume| pictures == 0 || made.contains(&volume));
         Facts { calls, reads, tight, pictured: pictures > 0 }
     }
 
@@ -90,6 +92,14 @@ impl<'a> Facts<'a> {
     }
 }
 
+/// The volume that a make was answered by.
+fn made_by(made: &Made) -> Option<u64> {
+    match (made.call.kind, &made.answer) {
+        (MAKE, Some((_, Answer::Number(number)))) => Some(*number),
+        _ => None,
+    }
+}
+
 fn takes_number(made: &Made) -> bool {
     matches!(made.call.kind, MAKE | PICTURE | COPY)
 }
@@ -124,7 +134,8 @@ fn is_past(made: &Made, place: &Place) -> bool {
     }
 }
 
-fn reads(calls: &[&Made]) -> Vec<Read> {
+/// The reads, where it is told of which volumes it is known that they began as zeros.
+fn reads(calls: &[&Made], is_made: impl Fn(u64) -> bool) -> Vec<Read> {
     let at = |i: usize| (calls[i].call.numbers[0], calls[i].call.numbers[2]);
     // a write that may have been done
     let writes = |i: &usize| calls[*i].call.kind == WRITE && matches!(calls[*i].answer, None | Some((_, Answer::Yes)));
@@ -136,16 +147,16 @@ fn reads(calls: &[&Made]) -> Vec<Read> {
             reads.push(Read { read, sources, earlier: others });
         }
     }
-    let due: Vec<usize> = (0..calls.len()).map(|i| due(calls, &reads, i)).collect();
+    let is_new = |i: usize| is_made(calls[i].call.numbers[0]) && calls[i].call.content.iter().any(|b| *b != 0);
+    let due: Vec<usize> = (0..calls.len()).map(|i| due(calls, &reads, i, is_new(i))).collect();
     for read in &mut reads {
         read.earlier.retain(|i| due[*i] < calls[read.read].line);
     }
     reads
 }
 
-/// When a call is done at the latest: before it is answered, and, of what was not zeros, before what it alone wrote is read.
-fn due(calls: &[&Made], reads: &[Read], i: usize) -> usize {
-    let blank = calls[i].call.content.iter().all(|b| *b == 0);
-    let alone = reads.iter().filter(|r| !blank && r.sources == [i]);
+/// When a call is done at the latest: before it is answered, and, of what wasn't there from the first, before what it alone wrote is read.
+fn due(calls: &[&Made], reads: &[Read], i: usize, is_new: bool) -> usize {
+    let alone = reads.iter().filter(|r| is_new && r.sources == [i]);
     alone.map(|r| calls[r.read].due()).fold(calls[i].due(), usize::min)
 }

@@ -129,7 +129,10 @@ impl History {
             ["fell", house] => self.reads_power(line, house, true),
             ["rose", house] => self.reads_power(line, house, false),
             ["order", numbers @ ..] => words::numbers(numbers).map(|order| self.ends(line, Printed::Order(order))),
-            ["no", "order"] => Some(self.ends(line, Printed::NoOrder)),
+            ["no", "order"] => {
+                self.ends(line, Printed::NoOrder);
+                Some(())
+            }
             ["cuts", n] => words::number(n).map(|n| self.cuts = Some(n)),
             ["call" | "answer" | "fell" | "rose" | "cuts", ..] => None,
             _ => Some(()),

@@ -120,6 +120,35 @@ fn what_is_not_there_or_full() {
     }
 }
 
+/// Whether an order is found where pictures are built.
+fn is_pictured(text: &str) -> bool {
+    let mut history = read(text).pop().unwrap();
+    history.pictured = true;
+    assert_eq!(history.faults, []);
+    matches!(search(&history, STATES), Found::Order(_))
+}
+
+#[test]
+fn a_copy_shows_its_picture() {
+    let made = format!("{MADE}{WRITTEN}call 4 0 picture 1 1\nanswer 4 number 2\ncall 5 0 write 1 1 5 08\nanswer 5 yes\n");
+    let copied = "call 6 0 copy 2\nanswer 6 number 3\ncall 7 0 attach 3\nanswer 7 token 1 size 100\ncall 8 0 read 3 1 5\n";
+    assert!(is_pictured(&format!("{made}{copied}answer 8 sector 07\n")));
+    assert!(!is_pictured(&format!("{made}{copied}answer 8 sector 08\n")));
+    // what the picture had is written once more, later
+    let writes = "call 10 0 write 3 1 5 09\nanswer 10 yes\ncall 13 0 write 3 1 6 09\nanswer 13 yes\ncall 11 0 read 3 1 5\nanswer 11 sector 09\ncall 12 0 read 3 1 5\nanswer 12 sector 07\nanswer 9 yes\n";
+    assert!(is_pictured(&format!("{made}{copied}call 9 1 write 3 1 5 07\nanswer 8 sector 07\n{writes}")));
+}
+
+#[test]
+fn a_copy_has_room_once_a_write_made_some() {
+    let made = MADE.replace("65536", &(2048 + 4 * 197).to_string());
+    let written = format!("{made}{WRITTEN}call 4 1 write 1 1 6 07\nanswer 4 yes\ncall 5 0 picture 1 1\nanswer 5 number 2\n");
+    let beside = "call 6 0 copy 2\ncall 7 1 write 1 1 5 00\n";
+    assert!(is_pictured(&format!("{written}{beside}answer 6 number 3\nanswer 7 yes\n")));
+    assert!(is_pictured(&format!("{written}{beside}answer 6 full\nanswer 7 yes\n")));
+    assert!(!is_pictured(&format!("{written}call 6 0 copy 2\nanswer 6 number 3\n")));
+}
+
 #[test]
 fn a_call_at_a_house_that_fell_is_done_or_not() {
     let fell = "call 3 1 write 1 1 5 07\nfell 1\n";
