@@ -8,3 +8,4 @@ pub mod Needing
 pub mod Noting
 pub mod Taking
 pub mod Listing
+pub mod Hearing

@@ -1,6 +1,7 @@
 -- Blocks that another copy is given, and blocks that it gives.
 -- Assumes nothing.
 use Rattle.std.specs.Prelude.{◌≡◌, ℕ, zero, suc, Bool, true, false, not, ◌&&◌, ◌||◌, cond, IsTrue, Some, None, List, [], ◌∷◌, ◌++◌, map, ◌==◌, nat_lt, nat_le, Option, vec_items}
+use Rattle.std.specs.List.{list_all}
 use Rattle.std.specs.Option.{option_map}
 use Rattle.copies.specs.Service.{Stamped, in_range}
 use Rattle.volumes.specs.Service.{Service}
@@ -8,6 +9,12 @@ use Rattle.pieces.specs.Replaces.{Held, Filled, replaces}
 use Rattle.served.specs.Room.{is_gone}
 use Rattle.copies.specs.declared.number.Key.{Key}
 use Rattle.copies.specs.declared.message.Stamped.{Stamped as StampedHad}
+use Rattle.copies.specs.declared.message.Tail.{Tail as TailHad}
+use Rattle.copies.specs.declared.message.Tail.TheVariants.{More, Ends}
+use Rattle.copies.specs.declared.message.Part.{Part as PartHad}
+use Rattle.copies.specs.declared.message.Message.{Message as MessageHad}
+use Rattle.copies.specs.declared.message.Message.TheVariants as messages
+use Rattle.packets.specs.declared.rest.Rest.{Rest}
 use Rattle.packets.specs.declared.block.Block.{Block as BlockHad}
 use Rattle.pieces.specs.declared.entry.Entry.{Entry}
 use Rattle.pieces.specs.Kept.{Kept}
@@ -90,3 +97,27 @@ takes_held r whole key next floor bs h = cond (ordered key next bs) (replaces (k
 abbrev pub Took : Bool → Option Held → Held → Type 0
 Took true o m = o ≡ Some m
 Took false o m = o ≡ None
+
+-- WHICH MESSAGES ARE HEARD: those whose keys are such keys.
+abbrev pub tail_fits : TailHad Rest (List ℕ) → Bool
+tail_fits (More k) = is_key k.0
+tail_fits (Ends x done) = true
+
+abbrev pub part_fits : PartHad Rest BlockHad (List ℕ) → Bool
+part_fits x = tail_fits x.tail && list_all (λ b. is_key b.key.0) (vec_items x.blocks)
+
+abbrev pub is_heard : MessageHad Rest BlockHad (List ℕ) (List ℕ) → Bool
+is_heard (messages.Bundle b) = true
+is_heard (messages.Replies s) = true
+is_heard (messages.Status x) = true
+is_heard (messages.Want w) = is_key w.key.0
+is_heard (messages.Part x) = part_fits x
+
+abbrev pub tail_key : TailHad Rest (List ℕ) → Option Key
+tail_key (More k) = Some k
+tail_key (Ends x done) = None
+
+-- the keys of a part that is heard are what taking over needs
+pub record HeardFit : Type 0 where
+  pub next : (x : PartHad Rest BlockHad (List ℕ)) → part_fits x ≡ true → AreNext (tail_key x.tail)
+  pub keys : (x : PartHad Rest BlockHad (List ℕ)) → part_fits x ≡ true → AreKeys (vec_items x.blocks)

@@ -8,10 +8,11 @@ ghost use Rattle.pieces.specs.Replacing.{the_blocks, overlaid};
 ghost use Rattle.volumes.specs.Service.{the_service};
 ghost use Rattle.copies.specs.Service.{in_range};
 ghost use Rattle.store.specs.Stores.{the_held, SameBut};
+ghost use Rattle.std.specs.List.{list_all};
 ghost use Rattle.std.specs.Option.{option_map};
 ghost use Rattle.keeping.specs.Keeping.{key_at, since_of, filled_of};
 ghost use Rattle.store.specs.Known.{the_data};
-ghost use Rattle.store.specs.Parts.{is_key, is_all, key_number, Lists, Took, FitKeys, AreKeys, AreNext, ordered, filled_one, takes_held, place_in, places_with, places_of, given, the_stamped};
+ghost use Rattle.store.specs.Parts.{is_key, is_heard, HeardFit, is_all, key_number, Lists, Took, FitKeys, AreKeys, AreNext, ordered, filled_one, takes_held, place_in, places_with, places_of, given, the_stamped};
 
 use crate::store::{Store, Unserved};
 use copies::message::{Message, Stamped, Tail, Want};
@@ -316,8 +317,18 @@ fn is_in_range(least: u128, next: Option<Key>, key: Key) -> bool
         }
 }
 
+fn are_keys(blocks: &[Stamped<Block>]) -> bool
+    ensures { result ≡ list_all (λ b. is_key b.key.0) blocks.now }
+{
+    blocks.iter().all(|stamped| is_key(stamped.key))
+}
+
 // May the keys of a message be keys of blocks?
-pub fn may_hear(message: &Packet) -> bool {
+#[tactic(auto, using(crate::proofs::Hearing::heard_fit))]
+pub fn may_hear(message: &Packet) -> bool
+    ensures value { result ≡ is_heard message.now }
+    ensures fit { HeardFit }
+{
     match message {
         Message::Want(want) => is_key(want.key),
         Message::Part(part) => {
@@ -325,7 +336,7 @@ pub fn may_hear(message: &Packet) -> bool {
                 Tail::More(key) => is_key(*key),
                 Tail::Ends(..) => true,
             };
-            tail && part.blocks.iter().all(|stamped| is_key(stamped.key))
+            tail && are_keys(&part.blocks)
         }
         _ => true,
     }
