@@ -9,3 +9,5 @@ pub mod Noting
 pub mod Taking
 pub mod Listing
 pub mod Hearing
+pub mod AsService
+pub mod AsKeeper
