@@ -11,3 +11,4 @@ pub mod Listing
 pub mod Hearing
 pub mod AsService
 pub mod AsKeeper
+pub mod Showing
