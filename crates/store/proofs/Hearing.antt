@@ -9,7 +9,7 @@ use Rattle.packets.specs.declared.rest.Rest.{Rest}
 use Rattle.packets.specs.declared.block.Block.{Block}
 use Rattle.store.specs.Parts.{is_key, AreKeys, AreNext, tail_fits, part_fits, tail_key, HeardFit}
 
-both : (a b : Bool) → a && b ≡ true → (a ≡ true) × (b ≡ true)
+pub both : (a b : Bool) → a && b ≡ true → (a ≡ true) × (b ≡ true)
 both true b e = (refl, e)
 both false b e = let z : ◌≡◌ {A = ℕ} 0 1 = cc in absurd (omega arith)
 

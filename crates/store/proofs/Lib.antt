@@ -9,3 +9,6 @@ pub mod Noting
 pub mod Taking
 pub mod Listing
 pub mod Hearing
+pub mod AsService
+pub mod AsKeeper
+pub mod Showing

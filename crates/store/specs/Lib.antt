@@ -2,3 +2,4 @@ pub mod Known
 pub mod Stores
 pub mod Parts
 pub mod Writes
+pub mod Serving

@@ -5,6 +5,7 @@ ghost use Rattle.volumes.specs.Simulation.{read_at, needed};
 ghost use Rattle.wire.specs.Calls.{the_call, outcome, is_call};
 ghost use Rattle.served.specs.Served.{decoded_call};
 ghost use Rattle.pieces.specs.Kept.{the_kept};
+ghost use Rattle.store.specs.Serving.{AsTheService, ChangesShow, TakesAsKeeper};
 ghost use Rattle.store.specs.Stores.{Stored, the_held, sector_of, the_stored, changes_held, reply, next, DoesHeld, IsOld, SameBut, DoesServe, place_needed, place_of_item, places_of_bundle, places_of_command};
 
 use crate::store::{Store, Unserved};
@@ -111,6 +112,14 @@ impl Store {
         Ok(Text::new(reply))
     }
 }
+
+// What is promised of it: replies and heads are those of the service that is replicated, and a range is taken over as the keeper does it.
+#[tactic(auto, using(crate::proofs::AsService::as_the_service, crate::proofs::AsKeeper::takes_as_keeper, crate::proofs::Showing::changes_show))]
+pub fn calls_are_served()
+    ensures served { AsTheService }
+    ensures shown { ChangesShow }
+    ensures taken { TakesAsKeeper }
+{}
 
 impl Service for Store {
     type Call = Text;
