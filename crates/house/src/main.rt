@@ -13,7 +13,7 @@ use input::next_line;
 use lines::hex::Hex;
 use lines::line::{LineError, parse};
 use station::Station;
-use std::io::{BufReader, Write};
+use std::io::{BufReader, BufWriter, Write};
 use std::{env, io};
 use wire::number::*;
 use wire::refusal::Refusal;
@@ -100,7 +100,7 @@ fn run(rt: &HostRuntime) -> anyhow::Result<()> {
     let (place, size) = named(rt)?;
     let mut station = Station::new(rt, place, size)?;
     let mut input = BufReader::new(rt.alloc(), rt.stdin())?;
-    let mut out = rt.stdout();
+    let mut out = BufWriter::new(rt.alloc(), rt.stdout())?;
 
     // A count, since each loop has to end: an iterator of its own would have to carry one.
     for _ in 0..u64::MAX {
