@@ -6,7 +6,7 @@ pub mod Giving
 pub mod Gathering
 pub mod Needing
 pub mod Noting
-pub mod Taking
+pub mod Ranges
 pub mod Listing
 pub mod Hearing
 pub mod AsService

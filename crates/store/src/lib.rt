@@ -5,4 +5,5 @@ pub mod known;
 pub mod parts;
 pub mod serve;
 pub mod store;
+pub mod taking;
 pub mod writes;

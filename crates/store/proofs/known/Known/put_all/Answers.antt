@@ -1,6 +1,6 @@
 use Rattle.std.proofs.Common.{rules}
 use Rattle.store.specs.Known.{the_data}
-use Rattle.store.proofs.Taking.{overlaid_more, overlaid_end}
+use Rattle.store.proofs.Ranges.{overlaid_more, overlaid_end}
 use Rattle.store.proofs.known.Known.put_all.Goals as goal
 
 pub loop-one-preserved : goal.loop-one-preserved

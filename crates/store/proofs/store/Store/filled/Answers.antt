@@ -1,8 +1,8 @@
 use Rattle.std.proofs.Common.{arith}
-use Rattle.store.proofs.Taking.{length-zero}
+use Rattle.store.proofs.Ranges.{length-zero}
 use Rattle.volumes.specs.Service.{the_service}
 use Rattle.pieces.specs.Replacing.{the_blocks}
-use Rattle.store.proofs.Taking.{filled_step, filled_end}
+use Rattle.store.proofs.Ranges.{filled_step, filled_end}
 use Rattle.store.proofs.store.Store.filled.Goals as goal
 
 pub loop-stamped-preserved : goal.loop-stamped-preserved

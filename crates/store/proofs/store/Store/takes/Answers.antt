@@ -3,7 +3,7 @@ use Rattle.volumes.specs.Service.{the_service}
 use Rattle.pieces.specs.Replacing.{the_blocks}
 use Rattle.store.specs.Stores.{the_held}
 use Rattle.store.specs.Parts.{AreKeys, key_number, ordered, the_stamped}
-use Rattle.store.proofs.Taking.{takes_none, took_all}
+use Rattle.store.proofs.Ranges.{takes_none, took_all}
 use Rattle.store.proofs.store.Store.takes.Goals as goal
 
 pub returns-then-not-is_in_order-clause-held : goal.returns-then-not-is_in_order-clause-held
