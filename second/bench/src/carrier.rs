@@ -1,5 +1,5 @@
 //! Carries packets between houses, and asks the next call where one is answered.
-use crate::inlet::Inlet;
+use crate::inlet::{Carried, Inlet};
 use crate::{HOUSES, SECTORS};
 use random::Random;
 use std::io::{self, Read, Write};
@@ -7,6 +7,7 @@ use std::os::unix::net::UnixStream;
 use std::sync::atomic::{AtomicBool, AtomicU64, Ordering::Relaxed};
 use std::sync::mpsc::Sender;
 use std::sync::{Mutex, MutexGuard, PoisonError};
+use std::time::UNIX_EPOCH;
 
 /// Longer than any line of a house.
 const BUFFER: usize = 1 << 21;
@@ -15,27 +16,33 @@ const BUFFER: usize = 1 << 21;
 pub struct Shared {
     inlets: [Mutex<Inlet>; HOUSES],
     done: [AtomicU64; HOUSES],
-    /// the number of the next call: no house saw it before
-    next: AtomicU64,
+    /// the number of the last call, which is when it was asked, in nanoseconds since 1970: so no house saw it before
+    last: AtomicU64,
     pub volume: AtomicU64,
     pub token: AtomicU64,
     /// whether the next call is asked where one is answered
     pub goes_on: AtomicBool,
     pub waiting: AtomicU64,
-    pub answered: AtomicU64,
+    /// how long each call that was answered took, in nanoseconds
+    took: Mutex<Vec<u64>>,
+}
+
+/// The clock in nanoseconds since 1970.
+fn now() -> u64 {
+    UNIX_EPOCH.elapsed().map_or(0, |time| u64::try_from(time.as_nanos()).unwrap_or(u64::MAX))
 }
 
 impl Shared {
-    pub fn new(inlets: [Inlet; HOUSES], next: u64) -> Shared {
+    pub fn new(inlets: [Inlet; HOUSES]) -> Shared {
         Shared {
             inlets: inlets.map(Mutex::new),
             done: Default::default(),
-            next: next.into(),
+            last: 0.into(),
             volume: 0.into(),
             token: 0.into(),
             goes_on: false.into(),
             waiting: 0.into(),
-            answered: 0.into(),
+            took: Mutex::default(),
         }
     }
 
@@ -43,13 +50,24 @@ impl Shared {
         self.inlets[house].lock().unwrap_or_else(PoisonError::into_inner)
     }
 
-    pub fn lost(&self) -> u64 {
-        (0..HOUSES).map(|house| self.inlet(house).lost).sum()
+    pub fn took(&self) -> MutexGuard<'_, Vec<u64>> {
+        self.took.lock().unwrap_or_else(PoisonError::into_inner)
+    }
+
+    /// A number that no call had.
+    fn number(&self) -> u64 {
+        let after = |last: u64| now().max(last + 1);
+        self.last.fetch_update(Relaxed, Relaxed, |last| Some(after(last))).map_or(0, after)
+    }
+
+    /// What was carried till now.
+    pub fn carried(&self) -> Carried {
+        (0..HOUSES).map(|house| self.inlet(house).carried).sum()
     }
 
     /// A call, in digits.
     pub fn ask(&self, house: usize, call: &str) -> io::Result<()> {
-        let number = self.next.fetch_add(1, Relaxed);
+        let number = self.number();
         let mut inlet = self.inlet(house);
         writeln!(inlet.tell(), "ask {number} {call}")?;
         inlet.flush()
@@ -57,7 +75,7 @@ impl Shared {
 
     /// A write of a random sector, to be told by `flush`.
     fn ask_write(&self, house: usize, random: &mut Random) -> io::Result<()> {
-        let number = self.next.fetch_add(1, Relaxed);
+        let number = self.number();
         let [volume, token] = [&self.volume, &self.token].map(|number| number.load(Relaxed));
         let sector = random.below(SECTORS);
         let eight = format!("{:016x}", random.next());
@@ -73,7 +91,7 @@ impl Shared {
 
     /// So many writes more wait at a house.
     pub fn ask_writes(&self, house: usize, count: usize) -> io::Result<()> {
-        let mut random = Random::new(self.next.load(Relaxed));
+        let mut random = Random::new(now());
         self.waiting.fetch_add(count as u64, Relaxed);
         for _ in 0..count {
             self.ask_write(house, &mut random)?;
@@ -127,8 +145,9 @@ fn heed(house: usize, line: &[u8], shared: &Shared, answers: &Sender<String>, ra
             shared.inlet(to).carry(house, packet);
             told[to] = true;
         }
-        [b'a', b'n', b's', b'w', b'e', b'r', b' ', .., b' ', b'0', b'1'] => {
-            shared.answered.fetch_add(1, Relaxed);
+        [b'a', b'n', b's', b'w', b'e', b'r', b' ', number @ .., b' ', b'0', b'1'] => {
+            let asked = str::from_utf8(number).ok().and_then(|number| number.parse().ok()).ok_or(io::ErrorKind::InvalidData)?;
+            shared.took().push(now().saturating_sub(asked));
             if shared.goes_on.load(Relaxed) {
                 shared.ask_write(house, random)?;
                 told[house] = true;

@@ -1,11 +1,12 @@
 //! Three houses as processes, on devices of their own.
 use crate::bare::zeros;
 use crate::carrier::{Shared, hear};
-use crate::inlet::Inlet;
+use crate::inlet::{Carried, Inlet};
 use crate::process::{Process, Usage};
 use crate::{HOUSES, SECTORS};
 use std::fs::create_dir;
 use std::io;
+use std::mem::take;
 use std::os::fd::OwnedFd;
 use std::os::unix::net::UnixStream;
 use std::path::Path;
@@ -14,7 +15,7 @@ use std::sync::Arc;
 use std::sync::atomic::Ordering::Relaxed;
 use std::sync::mpsc::{Receiver, channel};
 use std::thread::{sleep, spawn};
-use std::time::{Duration, Instant, UNIX_EPOCH};
+use std::time::{Duration, Instant};
 
 const DEVICE: usize = 65_536;
 
@@ -35,9 +36,11 @@ pub struct Measured {
     /// calls per second
     pub rate: f64,
     pub calls: u64,
+    /// how long half of the calls took at most, in microseconds
+    pub median: f64,
     /// of each house
     pub usage: Vec<Usage>,
-    pub lost: u64,
+    pub carried: Carried,
 }
 
 impl Houses {
@@ -60,8 +63,7 @@ impl Houses {
             outputs.push(outlet);
         }
         let Ok(inlets) = <[Inlet; HOUSES]>::try_from(inlets) else { unreachable!("there is one for each house") };
-        let now = UNIX_EPOCH.elapsed().map_err(io::Error::other)?;
-        let shared = Arc::new(Shared::new(inlets, u64::try_from(now.as_micros()).map_err(io::Error::other)?));
+        let shared = Arc::new(Shared::new(inlets));
         let (tell, answers) = channel();
         for (house, output) in outputs.into_iter().enumerate() {
             let (shared, tell) = (shared.clone(), tell.clone());
@@ -102,30 +104,42 @@ impl Houses {
     }
 
     /// Calls answered with so many waiting, spread over the houses.
-    pub fn measure(&mut self, waiting: usize, time: Duration) -> io::Result<Measured> {
-        let lost = self.shared.lost();
-        self.shared.goes_on.store(true, Relaxed);
+    pub fn measure(&self, waiting: usize, time: Duration) -> io::Result<Measured> {
+        let shared = &self.shared;
+        shared.goes_on.store(true, Relaxed);
         for house in 0..HOUSES {
-            self.shared.ask_writes(house, (waiting + HOUSES - 1 - house) / HOUSES)?;
+            shared.ask_writes(house, (waiting + HOUSES - 1 - house) / HOUSES)?;
         }
         sleep(WARM_UP);
-        let (begin, first, before) = (Instant::now(), self.shared.answered.load(Relaxed), self.usage()?);
+        shared.took().clear();
+        let (begin, carried, before) = (Instant::now(), shared.carried(), self.usage()?);
         sleep(time);
-        let (taken, last, after) = (begin.elapsed(), self.shared.answered.load(Relaxed), self.usage()?);
-        self.shared.goes_on.store(false, Relaxed);
+        let mut took = take(&mut *shared.took());
+        let seconds = begin.elapsed().as_secs_f64();
+        let (carried, after) = (shared.carried() - carried, self.usage()?);
+        shared.goes_on.store(false, Relaxed);
+        self.settle()?;
+        took.sort_unstable();
+        let Some(median) = took.get(took.len() / 2) else {
+            return Err(io::Error::other("no call was answered"));
+        };
+        let usage = after.into_iter().zip(before).map(|(after, before)| after - before).collect();
+        Ok(Measured { rate: took.len() as f64 / seconds, calls: took.len() as u64, median: *median as f64 / 1000.0, usage, carried })
+    }
+
+    /// Waits until no call waits. None may have been answered by anything but yes.
+    fn settle(&self) -> io::Result<()> {
         let end = Instant::now() + LIMIT;
         while self.shared.waiting.load(Relaxed) > 0 && Instant::now() < end {
+            if let Ok(line) = self.answers.try_recv() {
+                return Err(io::Error::other(line));
+            }
             sleep(TICK);
         }
-        if let Ok(line) = self.answers.try_recv() {
-            return Err(io::Error::other(line));
+        match self.shared.waiting.load(Relaxed) {
+            0 => Ok(()),
+            waiting => Err(io::Error::other(format!("{waiting} calls were not answered"))),
         }
-        if self.shared.waiting.load(Relaxed) > 0 {
-            return Err(io::Error::other("a call was not answered"));
-        }
-        let usage = after.into_iter().zip(before).map(|(after, before)| after - before).collect();
-        let calls = last - first;
-        Ok(Measured { rate: calls as f64 / taken.as_secs_f64(), calls, usage, lost: self.shared.lost() - lost })
     }
 }
 

@@ -1,5 +1,7 @@
 //! What a house is told.
 use std::io::{self, ErrorKind, Write};
+use std::iter::Sum;
+use std::ops::{Add, Sub};
 use std::os::unix::net::UnixStream;
 
 /// So many bytes may wait to be written; then packets are lost.
@@ -12,14 +14,21 @@ pub struct Inlet {
     written: usize,
     /// how many lines
     pub told: u64,
-    /// how many packets were lost
+    pub carried: Carried,
+}
+
+/// How many packets, how many bytes they had, and how many packets were lost.
+#[derive(Clone, Copy, Default)]
+pub struct Carried {
+    pub packets: u64,
+    pub bytes: u64,
     pub lost: u64,
 }
 
 impl Inlet {
     pub fn new(stream: UnixStream) -> io::Result<Inlet> {
         stream.set_nonblocking(true)?;
-        Ok(Inlet { stream, pending: Vec::new(), written: 0, told: 0, lost: 0 })
+        Ok(Inlet { stream, pending: Vec::new(), written: 0, told: 0, carried: Carried::default() })
     }
 
     /// The next line, to be written by `flush`; it must have its end.
@@ -31,9 +40,11 @@ impl Inlet {
     /// A packet, in digits.
     pub fn carry(&mut self, from: usize, packet: &[u8]) {
         if self.pending.len() - self.written > MOST_PENDING {
-            self.lost += 1;
+            self.carried.lost += 1;
             return;
         }
+        self.carried.packets += 1;
+        self.carried.bytes += packet.len() as u64 / 2;
         let line = self.tell();
         line.extend_from_slice(&[b'f', b'r', b'o', b'm', b' ', b'0' + from as u8, b' ']);
         line.extend_from_slice(packet);
@@ -52,5 +63,51 @@ impl Inlet {
         self.pending.clear();
         self.written = 0;
         Ok(())
+    }
+}
+
+impl Add for Carried {
+    type Output = Carried;
+
+    fn add(self, other: Carried) -> Carried {
+        Carried { packets: self.packets + other.packets, bytes: self.bytes + other.bytes, lost: self.lost + other.lost }
+    }
+}
+
+impl Sub for Carried {
+    type Output = Carried;
+
+    fn sub(self, other: Carried) -> Carried {
+        Carried { packets: self.packets - other.packets, bytes: self.bytes - other.bytes, lost: self.lost - other.lost }
+    }
+}
+
+impl Sum for Carried {
+    fn sum<I: Iterator<Item = Carried>>(all: I) -> Carried {
+        all.fold(Carried::default(), Add::add)
+    }
+}
+
+#[cfg(test)]
+mod tests {
+    use super::*;
+    use std::io::Read;
+
+    #[test]
+    fn a_packet_is_a_line_and_nobody_waits() {
+        let (stream, mut house) = UnixStream::pair().unwrap();
+        let mut inlet = Inlet::new(stream).unwrap();
+        inlet.carry(2, b"00ff");
+        inlet.flush().unwrap();
+        let mut line = [0; 12];
+        house.read_exact(&mut line).unwrap();
+        assert_eq!(&line, b"from 2 00ff\n");
+        let packet = vec![b'0'; 1 << 20];
+        for _ in 0..8 {
+            inlet.carry(1, &packet);
+            inlet.flush().unwrap();
+        }
+        assert!(inlet.carried.lost > 0);
+        assert_eq!(inlet.carried.packets + inlet.carried.lost, 9);
     }
 }

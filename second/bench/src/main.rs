@@ -52,46 +52,61 @@ fn run(house: &Path, time: Duration, folder: PathBuf) -> io::Result<()> {
     let house = house.canonicalize()?;
     let folder = Folder::new(&folder)?;
     println!("load {}", read_to_string("/proc/loadavg")?.trim_end());
-    let before = bare::rate(&folder.0, time)?;
     let ours = measure_houses(&house, &folder.0, time)?;
     let etcd = Etcd::start(&folder.0).and_then(|etcd| measure_etcd(&etcd, time));
-    let after = bare::rate(&folder.0, time)?;
     println!("load {}", read_to_string("/proc/loadavg")?.trim_end());
-    println!("bare syncs/s before and after: {before:.0} {after:.0}");
     if let Err(error) = &etcd {
         println!("etcd was not measured: {error}");
     }
-    show(&ours, etcd.as_deref().unwrap_or_default(), (before + after) / 2.0);
+    show(&ours, etcd.as_deref().unwrap_or_default());
+    show_usage(&ours);
     Ok(())
 }
 
-fn measure_houses(house: &Path, folder: &Path, time: Duration) -> io::Result<Vec<Measured>> {
-    let mut houses = Houses::start(house, folder)?;
-    WAITING.into_iter().map(|waiting| houses.measure(waiting, time)).collect()
+/// Houses on new devices for each number, and bare syncs per second, from before and after.
+fn measure_houses(house: &Path, folder: &Path, time: Duration) -> io::Result<Vec<(Measured, f64)>> {
+    let mut before = bare::rate(folder, time)?;
+    let mut all = Vec::new();
+    for waiting in WAITING {
+        let folder = folder.join(format!("waiting-{waiting}"));
+        create_dir(&folder)?;
+        let ours = Houses::start(house, &folder)?.measure(waiting, time)?;
+        let after = bare::rate(&folder, time)?;
+        all.push((ours, (before + after) / 2.0));
+        before = after;
+    }
+    Ok(all)
 }
 
 /// Puts per second, by gRPC and by the gateway.
-fn measure_etcd(etcd: &Etcd, time: Duration) -> io::Result<Vec<(f64, f64)>> {
-    WAITING
-        .into_iter()
-        .map(|waiting| Ok((caller::rate(waiting, time, || etcd.grpc())?, caller::rate(waiting, time, || etcd.gateway())?)))
-        .collect()
+fn measure_etcd(etcd: &Etcd, time: Duration) -> io::Result<Vec<[f64; 2]>> {
+    let both = |waiting| Ok([caller::rate(waiting, time, || etcd.grpc())?, caller::rate(waiting, time, || etcd.gateway())?]);
+    WAITING.into_iter().map(both).collect()
 }
 
-fn show(ours: &[Measured], etcd: &[(f64, f64)], bare: f64) {
-    println!("{:>7} {:>9} {:>12} {:>15} {:>10} {:>10}", "waiting", "ours/s", "etcd gRPC/s", "etcd gateway/s", "ours/bare", "ours/etcd");
-    for (at, (waiting, ours)) in WAITING.iter().zip(ours).enumerate() {
-        let [grpc, gateway] = etcd.get(at).map_or([f64::NAN; 2], |(grpc, gateway)| [*grpc, *gateway]);
-        let rate = ours.rate;
-        println!("{waiting:>7} {rate:>9.0} {grpc:>12.0} {gateway:>15.0} {:>10.3} {:>10.2}", rate / bare, rate / grpc.max(gateway));
+fn show(ours: &[(Measured, f64)], etcd: &[[f64; 2]]) {
+    println!("waiting   bare/s   ours/s  etcd gRPC/s  etcd gateway/s  ours/bare  ours/etcd  ours, median us");
+    for (at, (waiting, (ours, bare))) in WAITING.iter().zip(ours).enumerate() {
+        let [grpc, gateway] = etcd.get(at).copied().unwrap_or([f64::NAN; 2]);
+        let (rate, median) = (ours.rate, ours.median);
+        let ratios = format!("{:>10.3} {:>10.2}", rate / bare, rate / grpc.max(gateway));
+        println!("{waiting:>7} {bare:>8.0} {rate:>8.0} {grpc:>12.0} {gateway:>15.0} {ratios} {median:>16.0}");
     }
-    println!("a call of ours takes, of each house: microseconds of a processor in the program and in the kernel, calls of write, bytes written");
-    for (waiting, ours) in WAITING.iter().zip(ours) {
+}
+
+fn show_usage(ours: &[(Measured, f64)]) {
+    println!("For each call of ours, at each house:");
+    println!("waiting  house  us in the program  us in the kernel  writes to device or pipe  bytes written");
+    for (waiting, (ours, _)) in WAITING.iter().zip(ours) {
         for (house, usage) in ours.usage.iter().enumerate() {
             let [user, system, writes, bytes] = usage.each(ours.calls);
-            println!("{waiting:>7} house {house}: {user:>7.0} {system:>7.0} {writes:>7.1} {bytes:>9.0}");
+            println!("{waiting:>7} {house:>6} {user:>18.0} {system:>17.0} {writes:>25.1} {bytes:>14.0}");
         }
-        println!("{waiting:>7} packets lost before a house that was behind: {}", ours.lost);
+    }
+    println!("waiting  packets for each call  bytes in them  packets lost in all, before a house that was behind");
+    for (waiting, (ours, _)) in WAITING.iter().zip(ours) {
+        let [packets, bytes] = [ours.carried.packets, ours.carried.bytes].map(|all| all as f64 / ours.calls as f64);
+        println!("{waiting:>7} {packets:>22.1} {bytes:>14.0} {:>51}", ours.carried.lost);
     }
 }
 
