@@ -16,7 +16,5 @@ pub mod run;
 pub mod service;
 pub mod sessions;
 pub mod status;
-#[cfg(test)]
-mod tests;
 pub mod tick;
 pub mod turn;
