@@ -7,10 +7,16 @@ use std::os::unix::fs::FileExt;
 use std::path::Path;
 use std::time::{Duration, Instant};
 
-/// A file of so many sectors, all written and synced.
+/// Sectors of a page.
+const PAGE: usize = 8;
+
+/// A file of so many sectors, all written and synced, a page at a time: of a file that is written at once the kernel keeps large pages, and
+/// goes through all of one at each write of a sector.
 pub fn zeros(path: &Path, sectors: usize) -> io::Result<File> {
     let mut file = File::create(path)?;
-    file.write_all(&vec![0; SECTOR * sectors])?;
+    for _ in 0..sectors.div_ceil(PAGE) {
+        file.write_all(&[0; SECTOR * PAGE])?;
+    }
     file.sync_all()?;
     Ok(file)
 }
