@@ -45,7 +45,9 @@ impl Place {
 }
 
 fn usage() -> anyhow::Error {
-    anyhow!("usage: house NUMBER HOUSES [SIZE], with 3 to 49 houses and a number below that; a device that isn't there is made, of SIZE sectors")
+    anyhow!(
+        "usage: house NUMBER HOUSES [SIZE], with 3 to 49 houses and a number below that; a device that isn't there is made, of SIZE sectors"
+    )
 }
 
 // Which house this is, and the size of a device that is to be made, by the command line.

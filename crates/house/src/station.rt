@@ -38,9 +38,9 @@ fn sectors(file: &mut File) -> anyhow::Result<u64> {
 fn device(rt: &HostRuntime, size: Option<u64>) -> anyhow::Result<(File, u64)> {
     let mut options = OpenOptions::new();
     options.read(true).write(true).create(size.is_some());
-    let mut file = options
-        .open(rt, DEVICE)
-        .map_err(|_| anyhow!("the file `device` cannot be opened in this folder"))?;
+    let mut file = options.open(rt, DEVICE).map_err(|_| anyhow!(
+        "the file `device` cannot be opened in this folder"
+    ))?;
     let found = sectors(&mut file)?;
     match size {
         Some(size) if found == 0 => {
@@ -72,8 +72,12 @@ fn reason(failed: Failed<Stopped>) -> anyhow::Error {
         Failed::Refused(Stopped::NoMemory) => anyhow!("there isn't memory enough"),
         Failed::Refused(Stopped::Size) => anyhow!("a device has 65,536 to 2^40 sectors"),
         Failed::Refused(Stopped::Foreign) => anyhow!("the file `device` isn't a house's device"),
-        Failed::Refused(Stopped::Other) => anyhow!("the file `device` is another house's, or of another number of houses"),
-        Failed::Refused(Stopped::Broken) => anyhow!("what is stored on the file `device` contradicts itself"),
+        Failed::Refused(Stopped::Other) => anyhow!(
+            "the file `device` is another house's, or of another number of houses"
+        ),
+        Failed::Refused(Stopped::Broken) => anyhow!(
+            "what is stored on the file `device` contradicts itself"
+        ),
     }
 }
 
@@ -86,7 +90,11 @@ fn event_of(line: Line) -> Event {
 }
 
 impl Station {
-    pub(crate) fn new(rt: &HostRuntime, place: Place, size: Option<u64>) -> anyhow::Result<Station> {
+    pub(crate) fn new(
+        rt: &HostRuntime,
+        place: Place,
+        size: Option<u64>,
+    ) -> anyhow::Result<Station> {
         let (file, size) = device(rt, size)?;
         let setup = Setup {
             me: HouseNumber(u64::from(place.me.0)),

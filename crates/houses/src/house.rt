@@ -6,8 +6,8 @@ use packets::fault::{Unread, Unsent};
 use packets::identity::Identity;
 use packets::text::Text;
 use pieces::load::Unloaded;
-use store::store::{Store, Unserved};
 use std::alloc::{AllocError, AllocFailed};
+use store::store::{Store, Unserved};
 
 // copy: what it stores and remembers of the agreement; store: what it keeps of volumes.
 #[derive(Drop)]

@@ -70,7 +70,14 @@ fn raised(
         next: volumes.next(),
         heads: volumes.heads(),
     };
-    let pieces = load(heap, layout, Stamp(kept.floor), generation, living, directory)?;
+    let pieces = load(
+        heap,
+        layout,
+        Stamp(kept.floor),
+        generation,
+        living,
+        directory,
+    )?;
     Ok(House {
         journal,
         identity,
@@ -98,7 +105,11 @@ pub fn open<D: Disk>(disk: &mut D, heap: Global, setup: Setup) -> Result<House, 
 }
 
 impl House {
-    fn stores_identity<D: Disk>(mut self, disk: &mut D, heap: Global) -> Result<House, Failed<Stopped>> {
+    fn stores_identity<D: Disk>(
+        mut self,
+        disk: &mut D,
+        heap: Global,
+    ) -> Result<House, Failed<Stopped>> {
         let mut writes: Vec<Write> = Vec::new(heap);
         match put_table(heap, &self.identity, IDENTITY, &mut writes) {
             Ok(()) => {}

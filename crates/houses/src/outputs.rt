@@ -35,10 +35,7 @@ fn part_of(
     let blocks = store.blocks(heap, portion)?;
     let tail = match portion.next {
         Some(key) => Tail::More(key),
-        None => Tail::Ends(
-            store.rest(heap)?,
-            turn.house.sessions.copied_all(heap)?,
-        ),
+        None => Tail::Ends(store.rest(heap)?, turn.house.sessions.copied_all(heap)?),
     };
     Ok(Part {
         asked: serve.want,

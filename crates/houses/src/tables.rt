@@ -30,7 +30,9 @@ impl Tables<'_> {
     fn bytes(&self, area: Area) -> Result<Vec<u8>, Stopped> {
         let first = area.first.saturating_sub(FIRST) as usize;
         let (_, behind) = self.sectors.split_at_checked(first).ok_or(Stopped::Broken)?;
-        let (sectors, _) = behind.split_at_checked(area.count as usize).ok_or(Stopped::Broken)?;
+        let (sectors, _) = behind
+            .split_at_checked(area.count as usize)
+            .ok_or(Stopped::Broken)?;
         Ok(from_sectors(sectors, self.heap)?)
     }
 
@@ -51,7 +53,11 @@ impl Tables<'_> {
             incarnation: found.incarnation,
             ..new
         };
-        if found == alike { Ok(found) } else { Err(Stopped::Other) }
+        if found == alike {
+            Ok(found)
+        } else {
+            Err(Stopped::Other)
+        }
     }
 
     pub fn agreeing(&self) -> Result<Agreeing<Text>, Stopped> {
@@ -62,7 +68,11 @@ impl Tables<'_> {
         Ok(decode_agreeing(self.heap, &bytes)?)
     }
 
-    fn put_session(&self, house: HouseNumber, sessions: &mut Sessions<Text>) -> Result<(), Stopped> {
+    fn put_session(
+        &self,
+        house: HouseNumber,
+        sessions: &mut Sessions<Text>,
+    ) -> Result<(), Stopped> {
         let area = session_area(house).ok_or(Stopped::Broken)?;
         let bytes = self.bytes(area)?;
         if !bytes.is_empty() {

@@ -85,7 +85,12 @@ fn is_long(message: &Packet) -> bool {
     matches!(message, Message::Status(_) | Message::Part(_))
 }
 
-fn heard(heap: Global, store: &Store, heard: Heard<Rest, Block, Text, Text>, goes_on: bool) -> Result<Begun, Stopped> {
+fn heard(
+    heap: Global,
+    store: &Store,
+    heard: Heard<Rest, Block, Text, Text>,
+    goes_on: bool,
+) -> Result<Begun, Stopped> {
     match heard {
         Heard::Passed(copy) => Ok(Begun::Passed(copy)),
         Heard::Begun(turn) => Ok(Begun::Midst(Midst::new(heap, store, turn, goes_on)?)),
@@ -151,8 +156,17 @@ struct Worked {
 
 impl Worked {
     // A command's calls, one after the other.
-    fn applied(mut self, heap: Global, command: &copies::agreeing::Command<Text>) -> Result<Worked, Stopped> {
-        applies(&mut self.store, command, &mut self.turn.house.sessions, heap)?;
+    fn applied(
+        mut self,
+        heap: Global,
+        command: &copies::agreeing::Command<Text>,
+    ) -> Result<Worked, Stopped> {
+        applies(
+            &mut self.store,
+            command,
+            &mut self.turn.house.sessions,
+            heap,
+        )?;
         for bundle in &command.0 {
             self.sessions.push(bundle.house)?;
         }
@@ -170,13 +184,21 @@ impl Worked {
         Ok(self)
     }
 
-    fn took(mut self, heap: Global, from: HouseNumber, mut part: Part<Rest, Block, Text>) -> Result<Worked, Stopped> {
+    fn took(
+        mut self,
+        heap: Global,
+        from: HouseNumber,
+        mut part: Part<Rest, Block, Text>,
+    ) -> Result<Worked, Stopped> {
         let next = match &part.tail {
             Tail::More(key) => Some(*key),
             Tail::Ends(..) => None,
         };
         let blocks = mem::replace(&mut part.blocks, Vec::new(heap));
-        if self.store.takes(part.asked.key, next, part.whole, part.floor, blocks)? {
+        if self
+            .store
+            .takes(part.asked.key, next, part.whole, part.floor, blocks)?
+        {
             self.turn = self.turn.takes_over_part(from, part);
             self.replaced()
         } else {
@@ -194,7 +216,12 @@ impl Worked {
         }
     }
 
-    fn put_session(&self, heap: Global, house: HouseNumber, out: &mut Vec<Write>) -> Result<(), Stopped> {
+    fn put_session(
+        &self,
+        heap: Global,
+        house: HouseNumber,
+        out: &mut Vec<Write>,
+    ) -> Result<(), Stopped> {
         let area = session_area(house).ok_or(Stopped::Broken)?;
         let session = self.turn.house.sessions.of(house).ok_or(Stopped::Broken)?;
         Ok(put_table(heap, session, area, out)?)
@@ -247,7 +274,11 @@ impl Midst {
     }
 }
 
-fn stored<D: Disk>(journal: &mut Journal, disk: &mut D, writes: &[Write]) -> Result<(), Failed<Stopped>> {
+fn stored<D: Disk>(
+    journal: &mut Journal,
+    disk: &mut D,
+    writes: &[Write],
+) -> Result<(), Failed<Stopped>> {
     if writes.is_empty() {
         return Ok(());
     }
@@ -294,7 +325,12 @@ impl House {
     }
 
     // Where it fails the house is gone: it comes up anew from its device.
-    pub fn does<D: Disk>(self, disk: &mut D, heap: Global, event: Event) -> Result<Done, Failed<Stopped>> {
+    pub fn does<D: Disk>(
+        self,
+        disk: &mut D,
+        heap: Global,
+        event: Event,
+    ) -> Result<Done, Failed<Stopped>> {
         let House {
             journal,
             identity,

@@ -35,7 +35,7 @@ fn run(rt: &HostRuntime) -> anyhow::Result<()> {
     println!(rt; "dense: {places} sectors fit, one more doesn't; {markers} blocks changed")?;
     let (places, floor) = sparse(heap)?;
     println!(rt;
-        "one sector in each half of a piece: {places} fit, one more doesn't; the floor rises to {floor}"
+        "one sector in each piece: {places} fit, one more doesn't; the floor rises to {floor}"
     )?;
     Ok(())
 }

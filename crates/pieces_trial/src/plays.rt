@@ -8,9 +8,8 @@ use memory_disk::random::Random;
 use std::alloc::Global;
 use wire::number::*;
 
-// How far apart the sectors of the sparse filling stand: half a piece. Each new block looks through all pieces, so it would take three times
-// as long if each had a piece of its own.
-const APART: u64 = 4096;
+// How far apart the sectors of the sparse filling stand: a piece.
+const APART: u64 = 8192;
 
 // After how many of them it is loaded again: loading looks through all pieces for each entry.
 const REOPENED: u64 = 4000;
@@ -64,17 +63,17 @@ pub fn dense(heap: Global) -> anyhow::Result<(u64, u64)>
     Ok((places, trial.compare_listed(since)?))
 }
 
-// One sector in each half of a piece, until there is no room; then some are zeros, and another volume's take their entries.
+// One sector in each piece, until there is no room; then some are zeros, and another volume's take their entries.
 pub fn sparse(heap: Global) -> anyhow::Result<(u64, u64)> {
     let mut trial = Trial::new(heap)?;
     trial.make()?;
     trial.make()?;
     let places = trial.pieces.layout().places();
-    for half in 0..places {
-        if !trial.set(address(Volume(1), half.wrapping_mul(APART)), 7)? {
+    for piece in 0..places {
+        if !trial.set(address(Volume(1), piece.wrapping_mul(APART)), 7)? {
             return Err(anyhow!("it is full too early"));
         }
-        if half == REOPENED {
+        if piece == REOPENED {
             trial.open()?;
             trial.compare()?;
         }
@@ -82,19 +81,19 @@ pub fn sparse(heap: Global) -> anyhow::Result<(u64, u64)> {
     if trial.set(address(Volume(2), 0), 7)? {
         return Err(anyhow!("more fits than there are places"));
     }
-    for half in 0..500 {
-        if !trial.set(address(Volume(1), half * APART), 0)? {
+    for piece in 0..500 {
+        if !trial.set(address(Volume(1), piece * APART), 0)? {
             return Err(anyhow!("zeros need no room"));
         }
     }
-    for half in 0..500 {
-        if !trial.set(address(Volume(2), half * APART), 9)? {
+    for piece in 0..500 {
+        if !trial.set(address(Volume(2), piece * APART), 9)? {
             return Err(anyhow!("no marker is given up"));
         }
     }
-    for half in 0..1000 {
-        trial.shows(address(Volume(1), half * APART))?;
-        trial.shows(address(Volume(2), half * APART))?;
+    for piece in 0..1000 {
+        trial.shows(address(Volume(1), piece * APART))?;
+        trial.shows(address(Volume(2), piece * APART))?;
     }
     Ok((places, trial.floor.0))
 }
