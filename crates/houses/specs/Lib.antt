@@ -1,2 +1,3 @@
 pub mod Gathers
 pub mod Stops
+pub mod Stores
