@@ -1,8 +1,8 @@
 -- What is left to be read, at each turn of the code's loop.
 -- X-more: one turn, and what is left then; X-all: nothing is left.
-use Rattle.std.proofs.Common.{◌≡◌, ℕ, suc, ◌+◌, ◌-◌, ◌<◌, ◌≤◌, List, length, get_or, drop, map, Ok, Err, Result, sym, ap, ◌∙◌, subst, arith}
+use Rattle.std.proofs.Common.{◌≡◌, ℕ, suc, ◌+◌, ◌-◌, ◌<◌, ◌≤◌, List, length, get_or, drop, Ok, Err, Result, sym, subst, arith}
 use Rattle.std.proofs.lemmas.List.{drop_more, drop_all}
-use Rattle.disks.specs.Device.{Io, answer, then'}
+use Rattle.disks.specs.Device.{then'}
 use Rattle.journal.specs.declared.Place.{Place}
 use Rattle.device.specs.Does.{Act, broke, Does, ends, stops, giving, read_io}
 use Rattle.device.proofs.Steps.{after_read}

@@ -1,1 +1,3 @@
 pub mod Gathering
+pub mod Transacts
+pub mod Acting

@@ -1,4 +1,9 @@
 // What a house sends and answers when all is stored, as bytes.
+ghost use Rattle.std.specs.Prelude.{◌≡◌, ◌∷◌, [], map, IfOk};
+ghost use Rattle.disks.specs.Disks.{No};
+ghost use Rattle.wire.specs.Answers.{answer_bytes};
+ghost use Rattle.houses.specs.Sent.{answer, the_output};
+
 use crate::event::Output;
 use crate::house::Stopped;
 use crate::turning::Turning;
@@ -17,7 +22,9 @@ use wire::answer::Answer;
 use wire::refusal::Refusal;
 
 // Eight calls wait already.
-pub fn busy(heap: Global, id: CallNumber) -> Result<Vec<Output>, Stopped> {
+pub fn busy(heap: Global, id: CallNumber) -> Result<Vec<Output>, Stopped>
+    ensures { IfOk result (λ v. map the_output v.items ≡ answer id.0 (answer_bytes (No 11)) ∷ []) }
+{
     let bytes = Answer::Refused(Refusal::Busy).encode(heap)?;
     let mut outputs = Vec::new(heap);
     outputs.push(Output::Answer(id, bytes))?;

@@ -62,6 +62,7 @@ pub fn read_all<D: Disk>(
 }
 
 // Want of memory counts as the power failing.
+#[tactic(auto, unfolding(crate::specs::Stops::GivesUp))]
 pub(crate) fn stops<D: Disk>(disk: &mut D, stopped: Stopped) -> Failed<Stopped>
     ensures { GivesUp D.did disk.old stopped result disk.new }
 {

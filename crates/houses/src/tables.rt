@@ -1,4 +1,8 @@
 // A house's tables, as they are read when it comes up.
+ghost use Rattle.std.specs.Prelude.{◌≡◌, ◌≤◌, Ok, IfOk};
+ghost use Rattle.packets.specs.Areas.{from_sectors};
+ghost use Rattle.houses.specs.Found.{sectors_of, FindsIdentity};
+
 use crate::house::{Setup, Stopped};
 use copies::agreeing::Agreeing;
 use copies::number::HouseNumber;
@@ -27,7 +31,9 @@ pub const COUNT: u64 = KEPT.first + KEPT.count - IDENTITY.first;
 
 impl Tables<'_> {
     // The bytes of a table; none, where it was never written.
-    fn bytes(&self, area: Area) -> Result<Vec<u8>, Stopped> {
+    fn bytes(&self, area: Area) -> Result<Vec<u8>, Stopped>
+        ensures { IfOk result (λ v. from_sectors (sectors_of area self.now.sectors.now) ≡ Ok v.items) }
+    {
         let first = area.first.saturating_sub(FIRST) as usize;
         let (_, behind) = self.sectors.split_at_checked(first).ok_or(Stopped::Broken)?;
         let (sectors, _) = behind
@@ -37,7 +43,9 @@ impl Tables<'_> {
     }
 
     // Who the house is, if it is the one that it is said to be; on a blank device it is new.
-    pub fn identity(&self, setup: Setup) -> Result<Identity, Stopped> {
+    pub fn identity(&self, setup: Setup) -> Result<Identity, Stopped>
+        ensures { IfOk result (λ i. FindsIdentity setup self.now.sectors.now i) }
+    {
         let bytes = self.bytes(IDENTITY)?;
         let new = Identity {
             house: setup.me,

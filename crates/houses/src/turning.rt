@@ -1,21 +1,19 @@
-// An event: what comes is heard, places are read, work is done, all is stored in one transaction, and then it is sent.
+// What is done at an event before and after places are read: nothing here asks the disk.
 use crate::event::{Event, Output};
-use crate::house::{House, Stopped};
+use crate::house::Stopped;
 use crate::outputs::*;
-use crate::reading::{read_all, stops};
 use copies::event::{Called, Heard};
 use copies::message::{Message, Part, Tail};
 use copies::number::{CallNumber, HouseNumber};
 use copies::run::applies;
 use copies::sessions::MOST_HOUSES;
 use copies::turn::{House as Copy, Turn, Work};
-use device::disk::{Disk, Failed};
-use device::put::put;
-use journal::state::{Journal, Write};
+use journal::Place;
+use journal::state::Write;
+use octets::SECTOR_BYTES;
 use packets::areas::{AGREEING, session_area};
 use packets::block::Block;
 use packets::fault::Unread;
-use packets::identity::Identity;
 use packets::packet::{Packet, decode_message};
 use packets::rest::Rest;
 use packets::text::Text;
@@ -44,13 +42,6 @@ enum Begun {
     Passed(Copy<Text, Text>),
     Busy(Copy<Text, Text>, CallNumber),
     Midst(Midst),
-}
-
-// What an event leaves.
-#[derive(Drop)]
-pub struct Done {
-    pub house: House,
-    pub outputs: Vec<Output>,
 }
 
 impl Midst {
@@ -243,11 +234,11 @@ impl Worked {
 
 // What is stored, and sent when it is.
 #[derive(Drop)]
-struct Ended {
-    copy: Copy<Text, Text>,
-    store: Store,
-    writes: Vec<Write>,
-    outputs: Vec<Output>,
+pub(crate) struct Ended {
+    pub(crate) copy: Copy<Text, Text>,
+    pub(crate) store: Store,
+    pub(crate) writes: Vec<Write>,
+    pub(crate) outputs: Vec<Output>,
 }
 
 impl Midst {
@@ -274,86 +265,51 @@ impl Midst {
     }
 }
 
-fn stored<D: Disk>(
-    journal: &mut Journal,
-    disk: &mut D,
-    writes: &[Write],
-) -> Result<(), Failed<Stopped>> {
-    if writes.is_empty() {
-        return Ok(());
-    }
-    match put(journal, disk, writes) {
-        Ok(()) => Ok(()),
-        Err(Failed::Disk(fault)) => Err(Failed::Disk(fault)),
-        Err(Failed::Refused(_)) => Err(Failed::Refused(Stopped::Broken)),
-    }
+// An event that waits for what the places hold.
+#[derive(Drop)]
+pub(crate) struct Asked {
+    pub(crate) places: Vec<Place>,
+    midst: Midst,
+    store: Store,
 }
 
-impl House {
-    // In the midst of an event: reads, ends, stores.
-    fn goes<D: Disk>(
-        disk: &mut D,
-        heap: Global,
-        mut journal: Journal,
-        identity: Identity,
-        store: Store,
-        midst: Midst,
-    ) -> Result<Done, Failed<Stopped>> {
-        let places = match store.data_places(heap, &midst.places) {
-            Ok(places) => places,
-            Err(stopped) => return Err(stops(disk, Stopped::from(stopped))),
-        };
-        let sectors = read_all(disk, heap, &places)?;
-        let mut store = store.begins(midst.turn.house.agreeing.version);
-        if store.knows(&midst.places, &sectors).is_err() {
-            return Err(Failed::Disk(disk.give_up()));
-        }
-        let ended = match midst.ends(heap, store) {
-            Ok(ended) => ended,
-            Err(stopped) => return Err(stops(disk, stopped)),
-        };
-        stored(&mut journal, disk, &ended.writes)?;
-        Ok(Done {
-            house: House {
-                journal,
-                identity,
-                copy: ended.copy,
-                store: ended.store,
-            },
-            outputs: ended.outputs,
+impl Asked {
+    fn new(heap: Global, midst: Midst, store: Store) -> Result<Asked, Stopped> {
+        let places = store.data_places(heap, &midst.places)?;
+        Ok(Asked {
+            places,
+            midst,
+            store,
         })
     }
 
-    // Where it fails the house is gone: it comes up anew from its device.
-    pub fn does<D: Disk>(
-        self,
-        disk: &mut D,
-        heap: Global,
-        event: Event,
-    ) -> Result<Done, Failed<Stopped>> {
-        let House {
-            journal,
-            identity,
-            copy,
-            store,
-        } = self;
-        let (copy, outputs) = match begins(heap, copy, &store, event) {
-            Ok(Begun::Midst(midst)) => {
-                return House::goes(disk, heap, journal, identity, store, midst);
-            }
-            Ok(Begun::Passed(copy)) => (copy, Vec::new(heap)),
-            Ok(Begun::Busy(copy, id)) => match busy(heap, id) {
-                Ok(outputs) => (copy, outputs),
-                Err(stopped) => return Err(stops(disk, stopped)),
-            },
-            Err(stopped) => return Err(stops(disk, stopped)),
-        };
-        let house = House {
-            journal,
-            identity,
-            copy,
-            store,
-        };
-        Ok(Done { house, outputs })
+    // What they hold was read.
+    pub(crate) fn ends(self, heap: Global, sectors: &[[u8; SECTOR_BYTES]]) -> Result<Ended, Stopped> {
+        let mut store = self.store.begins(self.midst.turn.house.agreeing.version);
+        store.knows(&self.midst.places, sectors)?;
+        self.midst.ends(heap, store)
+    }
+}
+
+// What comes of an event before anything is read: it is over, or it waits.
+#[derive(Drop)]
+pub(crate) enum Started {
+    Over(Copy<Text, Text>, Store, Vec<Output>),
+    Asked(Asked),
+}
+
+pub(crate) fn starts(
+    heap: Global,
+    copy: Copy<Text, Text>,
+    store: Store,
+    event: Event,
+) -> Result<Started, Stopped> {
+    match begins(heap, copy, &store, event)? {
+        Begun::Passed(copy) => Ok(Started::Over(copy, store, Vec::new(heap))),
+        Begun::Busy(copy, id) => {
+            let outputs = busy(heap, id)?;
+            Ok(Started::Over(copy, store, outputs))
+        }
+        Begun::Midst(midst) => Ok(Started::Asked(Asked::new(heap, midst, store)?)),
     }
 }
