@@ -284,7 +284,11 @@ impl Asked {
     }
 
     // What they hold was read.
-    pub(crate) fn ends(self, heap: Global, sectors: &[[u8; SECTOR_BYTES]]) -> Result<Ended, Stopped> {
+    pub(crate) fn ends(
+        self,
+        heap: Global,
+        sectors: &[[u8; SECTOR_BYTES]],
+    ) -> Result<Ended, Stopped> {
         let mut store = self.store.begins(self.midst.turn.house.agreeing.version);
         store.knows(&self.midst.places, sectors)?;
         self.midst.ends(heap, store)
