@@ -1,8 +1,9 @@
 -- One turn of the loops over digits.
-use Rattle.std.proofs.Common.{◌≡◌, ℕ, zero, suc, ◌+◌, ◌*◌, ◌/◌, ◌%◌, ◌<◌, ◌≤◌, ◌≢◌, List, [], ◌∷◌, ◌++◌, length, get_or, take, drop, Some, None, Option, sym, refl, ap, ◌∙◌, ap₂, append_assoc, append-nil, arith, encode_utf8, subst}
-use Rattle.std.proofs.lemmas.List.{drop_more, drop_all, take_more}
+use Rattle.std.proofs.Common.{◌≡◌, ℕ, zero, suc, ◌+◌, ◌*◌, ◌/◌, ◌%◌, ◌<◌, ◌≤◌, ◌≢◌, List, [], ◌∷◌, ◌++◌, length, get_or, take, drop, set, Some, None, Option, sym, refl, ap, ◌∙◌, ap₂, append_assoc, append-nil, arith}
+use Rattle.std.proofs.lemmas.List.{drop_more, drop_all, take_more, take_all, take_more_set, length-set}
 use Rattle.std.specs.Option.{option_map}
-use Rattle.std.proofs.lemmas.Str.{encode_ascii}
+use Rattle.std.proofs.lemmas.Str.Ascii.{IsAscii-nil, IsAscii-cons}
+use Rattle.std.specs.Str.{IsAscii}
 use Rattle.std.specs.Simd.{first_chunks}
 use Rattle.lines.specs.Hexes.{digit_of, digit_for, byte_in, with_byte, bytes_in, hex_of, HexRoundTrip}
 use Rattle.lines.specs.Lines.{with_front, cut_at}
@@ -94,10 +95,30 @@ cut_none (t ∷ ts) h = cut_not t ts (h 0 (omega arith)) ∙ ap (with_front t) (
 digit_ascii : (n : ℕ) → n < 16 → digit_for n < 128
 digit_ascii n h = grind (arith, nat_tests)
 
--- a turn that displays two digits
-pub shown_more : (bs : List ℕ) (i x y : ℕ) → i < length bs → get_or bs i 0 < 256 → x ≡ digit_for (get_or bs i 0 / 16) → y ≡ digit_for (get_or bs i 0 % 16) → hex_of (take i bs) ++ (encode_utf8 x ++ encode_utf8 y) ≡ hex_of (take (i + 1) bs)
-shown_more bs i x y h byte e f =
-    let one = encode_ascii x (subst (λ (n : ℕ). n < 128) (sym e) (digit_ascii (get_or bs i 0 / 16) (omega arith))) in
-    let two = encode_ascii y (subst (λ (n : ℕ). n < 128) (sym f) (digit_ascii (get_or bs i 0 % 16) (omega arith))) in
-    let joined = ap₂ (λ (s t : List ℕ). hex_of (take i bs) ++ (s ++ t)) one two in
-    joined ∙ sym (append_assoc (hex_of (take i bs)) (x ∷ []) (y ∷ [])) ∙ hex_more bs i x y (hex_of (take i bs)) (hex_of (take i bs) ++ x ∷ []) ((hex_of (take i bs) ++ x ∷ []) ++ y ∷ []) h e f refl refl refl
+-- a turn that spells a byte at its place
+pub spelled_more : (bs ds : List ℕ) (i x y : ℕ) → i < length bs → 2 * i + 1 < length ds → x ≡ digit_for (get_or bs i 0 / 16) → y ≡ digit_for (get_or bs i 0 % 16) → take (2 * i) ds ≡ hex_of (take i bs) → take (2 * (i + 1)) (set (set ds (2 * i) x) (2 * i + 1) y) ≡ hex_of (take (i + 1) bs)
+spelled_more bs ds i x y h fits a b e =
+    let kept : length (set ds (2 * i) x) ≡ length ds = length-set ds (2 * i) x in
+    let high = take_more_set ds (2 * i) x (omega arith) in
+    let low = take_more_set (set ds (2 * i) x) (2 * i + 1) y (omega (arith, kept)) in
+    let two : 2 * (i + 1) ≡ 2 * i + 1 + 1 = omega arith in
+    rw two (hex_more bs i x y _ _ _ h a b e high low)
+
+-- all was spelled
+pub spelled_all : (bs ds : List ℕ) (i : ℕ) → length bs ≤ i → i ≤ length bs → take (2 * i) ds ≡ hex_of (take i bs) → take (2 * length bs) ds ≡ hex_of bs
+spelled_all bs ds i least most e =
+    let whole : i ≡ length bs = omega arith in
+    ap (λ (k : ℕ). take (2 * k) ds) (sym whole) ∙ e ∙ ap hex_of (take_all i bs least)
+
+-- digits are text
+pub hex_ascii : (bs : List ℕ) → ((k : ℕ) → get_or bs k 0 < 256) → IsAscii (hex_of bs)
+hex_ascii [] h = IsAscii-nil
+hex_ascii (b ∷ bs) h =
+    let byte : b < 256 = h 0 in
+    let rest = hex_ascii bs (λ k. h (suc k)) in
+    IsAscii-cons (digit_for (b / 16)) (digit_for (b % 16) ∷ hex_of bs) (digit_ascii (b / 16) (omega arith)) (IsAscii-cons (digit_for (b % 16)) (hex_of bs) (digit_ascii (b % 16) (omega arith)) rest)
+
+-- a run is displayed before the rest
+pub hex_parts : (done all run rest text : List ℕ) → all ≡ run ++ rest → text ≡ hex_of run → (done ++ text) ++ hex_of rest ≡ done ++ hex_of all
+hex_parts done all run rest text parts e =
+    append_assoc done text (hex_of rest) ∙ ap (λ (s : List ℕ). done ++ s) (ap (λ (s : List ℕ). s ++ hex_of rest) e ∙ sym (hex-++ run rest) ∙ ap hex_of (sym parts))

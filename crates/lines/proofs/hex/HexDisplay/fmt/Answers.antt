@@ -1,11 +1,19 @@
-use Rattle.std.proofs.Common.{rules}
-use Rattle.std.proofs.lemmas.Grind.{put_three}
-use Rattle.lines.proofs.Steps.{shown_more}
+use Rattle.std.proofs.Common.{◌++◌, ◌∙◌, rules}
+use Rattle.std.proofs.Output.{has_written_append}
+use Rattle.std.specs.Slice.Iter.{chunks_rest}
+use Rattle.lines.proofs.Steps.{hex_parts}
 use Rattle.lines.proofs.hex.HexDisplay.fmt.Goals as goal
 
-pub loop-b-preserved : goal.loop-b-preserved
-loop-b-preserved g c plain =
-    let before = c.loop-b.invariant plain in
-    let one = c.write_char.ensures.writes before.plain (search rules) in
-    let two = c.write_char-in-loop-b.ensures.writes one.plain (search rules) in
-    put_three g.W.Write.write_str_gives _ _ _ _ _ _ _ _ before one two (shown_more c.args.self.now.0.now c.loop-b.b-index c.unwrap.result c.unwrap-in-loop-b.result c.loop-b-test.true (search rules) (search rules) (search rules))
+pub loop-run-preserved : goal.loop-run-preserved
+loop-run-preserved g c =
+    let steps = c.in-Some.ensures.steps in (
+      search rules,
+      tt,
+      steps.0 ∙ c.loop-run.invariant.2,
+      λ plain.
+          let so_far = c.loop-run.invariant.3 plain in (
+            so_far.0 ++ c.spell.result.now,
+            has_written_append _ _ _ _ _ _ so_far.1 (search rules),
+            hex_parts so_far.0 _ c.in-Some.run'.now (chunks_rest c.next.new.self) c.spell.result.now steps.1.0 c.spell.ensures ∙ so_far.2,
+          ),
+    )
