@@ -13,7 +13,9 @@ const RUN: usize = 32;
 fn value(digit: u8) -> Option<u8>
     ensures { result ≡ digit_of digit }
 {
-    u8::try_from(char::from(digit).to_digit(16)?).ok()
+    // A letter's lower four bits count from 1, and of digits only letters are 64 or more. By `to_digit` reading took up to half as long again.
+    let n = digit % 16 + digit / 64 * 9;
+    digit.is_ascii_hexdigit().then_some(n)
 }
 
 // The byte that two digits spell.

@@ -7,4 +7,4 @@ use Rattle.device.specs.declared.disk.Fault.{Fault}
 use Rattle.device.proofs.open.scan.Given as goal
 
 abbrev pub invariant-loop-i : goal.invariant-loop-i
-invariant-loop-i g l = Left Fault g.D.Disk.did (scan_from l.size l.at 0 slot_sectors (Ok scan_start)) l.initial.disk (scan_from l.size l.at l.i-counter (slot_sectors - l.i-counter) l.found) l.disk
+invariant-loop-i g l = Left Fault g.D.Disk.did (scan_from l.size l.at 0 slot_sectors (Ok scan_start)) l.initial.disk (scan_from l.size l.at l.i (slot_sectors - l.i) l.found) l.disk
